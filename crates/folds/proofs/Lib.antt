@@ -1,0 +1,10 @@
+pub mod Bools
+pub mod Below
+pub mod Every
+pub mod Count
+pub mod Total
+pub mod First
+pub mod Onto
+pub mod Joined
+pub mod Gather
+pub mod Decide

@@ -1,0 +1,56 @@
+-- Laws of `onto`: a list over the front of a buffer. Assumes nothing.
+use mathlib.Core.Path.{_≡_, refl, ap, _∙_}
+use mathlib.Core.List.{List, [], _∷_, _++_, append-assoc, append-nil}
+use Prim.Native.Nat.{ℕ, _+_, _-_, _≤_, _<_}
+use native.Mathlib.Numerals.{add-one}
+use native.Mathlib.Omega.{arith}
+use lib.ListN.{length, take, drop, set, length-append, length-drop, length-take, length-set}
+use lib.Seq.{drop-drop, drop-cons, set-append-seam, append-snoc, drop-length, take-append-seam, drop-append-seam}
+use Rattle.folds.specs.Fold.{onto}
+
+pub onto-none : (d : List ℕ) → onto [] d ≡ d
+unfolding onto
+onto-none d = refl
+
+pub onto-length : (xs d : List ℕ) → length xs ≤ length d → length (onto xs d) ≡ length d
+unfolding onto
+onto-length xs d h = simp (length-append, length-drop) (omega arith)
+
+-- what covers the whole buffer is all of it
+pub onto-full : (xs d : List ℕ) → length xs ≡ length d → onto xs d ≡ xs
+unfolding onto
+onto-full xs d h = rw (h, drop-length, append-nil)
+
+-- a store right behind what is written
+pub onto-store : (xs d : List ℕ) (v : ℕ) → length xs < length d → set (onto xs d) (length xs) v ≡ onto (xs ++ (v ∷ [])) d
+unfolding onto
+onto-store xs d v h =
+    rw (drop-cons d (length xs) 0 h, set-append-seam, append-snoc)
+    (rw length-append (rw (add-one (length xs)) refl))
+
+onto-part₀ : (xs row d : List ℕ) → take (length xs) (onto xs d) ++ (row ++ drop (length xs + length row - length xs) (drop (length xs) (onto xs d))) ≡ onto (xs ++ row) d
+unfolding onto
+onto-part₀ xs row d =
+    let k : length xs + length row - length xs ≡ length row = omega arith in
+    rw (k, take-append-seam, drop-append-seam, drop-drop, length-append, append-assoc)
+
+-- a part behind what is written, lent on and filled with a row: the buffer as a call `f(&mut s[at..at + n])` leaves it
+pub onto-part : (xs row d s s′ : List ℕ) (at n : ℕ) → s ≡ onto xs d → at ≡ length xs → n ≡ length row
+    → s′ ≡ take at s ++ (row ++ drop (at + n - at) (drop at s)) → s′ ≡ onto (xs ++ row) d
+onto-part xs row d s s′ at n e ea en t = t ∙ rw (e, ea, en) (onto-part₀ xs row d)
+
+-- the part that is lent is as long as its row
+pub part-length : (n at k : ℕ) (b : List ℕ) → at + n ≤ length b → n ≡ k → length (take (at + n - at) (drop at b)) ≡ k
+part-length n at k b h e = simp (length-take, length-drop) (omega arith)
+
+-- a store, no store, and a part that came back keep the length
+pub kept-set : (s s′ d : List ℕ) (j v : ℕ) → s′ ≡ set s j v → length s ≡ length d → length s′ ≡ length d
+kept-set s s′ d j v e l = ap length e ∙ length-set s j v ∙ l
+
+pub kept-same : (s s′ d : List ℕ) → s′ ≡ s → length s ≡ length d → length s′ ≡ length d
+kept-same s s′ d e l = ap length e ∙ l
+
+pub kept-part : (d b b′ x : List ℕ) → b′ ≡ x → length x ≡ length b → length b ≡ length d → length b′ ≡ length d
+kept-part d b b′ x e f g = ap length e ∙ f ∙ g
+
+pub ruleset keeps = (kept-set, kept-same)

@@ -1,0 +1,1 @@
+// Lists and loops: definitions in specs/, their laws in proofs/. No code.

@@ -1,0 +1,4 @@
+pub mod Bits
+pub mod Flip
+pub mod Weight
+pub mod Order

@@ -1,0 +1,70 @@
+-- Laws of a set's weight. Assumes nothing.
+use mathlib.Core.Path.{_≡_, refl, sym, _∙_}
+use mathlib.Core.Logic.{⊎-elim}
+use Prim.Native.Nat.{ℕ, zero, suc, _+_, _^_, _≤_, _<_}
+use native.Mathlib.Nat.{one-mul, zero-mul}
+use native.Mathlib.Omega.{arith}
+use Rattle.folds.specs.Fold.{pick, total, count}
+use Rattle.folds.proofs.Total.{total-same, total-apart, total-stays, total-more}
+use Rattle.sets.specs.Sets.{bit, has, share, weight, one, size}
+use Rattle.sets.proofs.Bits.{bit-cases, bit-high, has-yes, has-no, top-bit, top-below, top-lt}
+use Rattle.sets.proofs.Flip.{flip, flip-out, flip-in, flip-other}
+
+module _ (w : ℕ → ℕ) where
+  pub share-in : (s t : ℕ) → bit s t ≡ 1 → share w s t ≡ w t
+  unfolding share
+  share-in s t e = rw (e, one-mul)
+
+  pub share-out : (s t : ℕ) → bit s t ≡ 0 → share w s t ≡ 0
+  unfolding share
+  share-out s t e = rw (e, zero-mul)
+
+  share-same : (s s' t : ℕ) → bit s t ≡ bit s' t → share w s t ≡ share w s' t
+  unfolding share
+  share-same s s' t e = rw e
+
+  -- taking out test t makes the set lighter by that test's weight
+  pub weight-out : (s t : ℕ) → t < 24 → bit s t ≡ 1 → weight w (flip s t) + w t ≡ weight w s
+  weight-out s t l e =
+      omega (
+        arith,
+        total-apart (share w s) (share w (flip s t)) 24 t l (λ i ne. share-same s (flip s t) i (sym (flip-other s t i ne))),
+        share-in s t e,
+        share-out (flip s t) t (flip-out s t e),
+      )
+
+  -- putting in test t makes the set heavier by that test's weight
+  pub weight-in : (s t : ℕ) → t < 24 → bit s t ≡ 0 → weight w (flip s t) ≡ weight w s + w t
+  weight-in s t l e =
+      omega (
+        arith,
+        total-apart (share w s) (share w (flip s t)) 24 t l (λ i ne. share-same s (flip s t) i (sym (flip-other s t i ne))),
+        share-out s t e,
+        share-in (flip s t) t (flip-in s t e),
+      )
+
+  -- the tests from n on add nothing to a set below 2 ^ n
+  pub weight-below : (n s : ℕ) → n ≤ 24 → s < 2 ^ n → weight w s ≡ total (share w s) n
+  weight-below n s l h = total-stays (share w s) n 24 l (λ i m. share-out s i (bit-high s n i h m))
+
+  -- one test more at the top
+  pub weight-top : (c t : ℕ) → t < 24 → c < 2 ^ t → weight w (c + 2 ^ t) ≡ weight w c + w t
+  weight-top c t l h =
+      let a : weight w (c + 2 ^ t) ≡ total (share w (c + 2 ^ t)) (suc t) = weight-below (suc t) (c + 2 ^ t) (omega arith) (top-lt c t h) in
+      let b : total (share w (c + 2 ^ t)) t ≡ total (share w c) t = total-same _ _ t (λ i m. share-same (c + 2 ^ t) c i (top-below c t i h m)) in
+      omega (arith, weight-below t c (omega arith) h, total-more (share w (c + 2 ^ t)) t, share-in (c + 2 ^ t) t (top-bit c t h))
+
+-- where each test weighs 1 the weight is the number of tests
+pub weight-counts : (s n : ℕ) → total (share one s) n ≡ count (has s) n
+unfolding total count
+weight-counts s zero = refl
+weight-counts s (suc n) = ⊎-elim
+    (λ e. let h : pick {A = ℕ} (has s n) 1 0 ≡ 0 = rw (has-no s n e) in omega (arith, weight-counts s n, share-out one s n e))
+    (λ e. let h : pick {A = ℕ} (has s n) 1 0 ≡ 1 = rw (has-yes s n e) in omega (arith, weight-counts s n, share-in one s n e, unit n))
+    (bit-cases s n)
+  where
+    unit : (n : ℕ) → one n ≡ 1
+    unit n = unfold one in refl
+
+pub size-counts : (n s : ℕ) → n ≤ 24 → s < 2 ^ n → size s ≡ count (has s) n
+size-counts n s l h = weight-below one n s l h ∙ weight-counts s n

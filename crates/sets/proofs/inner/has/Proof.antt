@@ -1,0 +1,17 @@
+use borrow.Author.Needs.{needs}
+use Rattle.sets.specs.Sets.{bit, has}
+use Rattle.sets.proofs.inner.has.Statement.{statement}
+use Rattle.sets.proofs.inner.has.Tie as tie
+
+cast-result : tie.Need-cast-result
+cast-result c = search needs
+
+shr-result : tie.Need-shr-result
+shr-result c = search needs
+
+returns : tie.Need-returns
+unfolding has bit
+returns c = search needs
+
+pub has-spec : {M : Type 1} → statement M
+has-spec = tie.close (tie.spec cast-result shr-result returns)

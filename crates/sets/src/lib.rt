@@ -1,0 +1,2 @@
+// Sets of tests as numbers: bit t stands for test t.
+pub mod inner;

@@ -1,0 +1,4 @@
+pub mod Cells
+pub mod Formed
+pub mod Answers
+pub mod Pins

@@ -1,0 +1,4 @@
+pub mod Table
+pub mod WellFormed
+pub mod Test
+pub mod Answers

@@ -1,0 +1,1 @@
+// The paper's terms: definitions in specs/. No code.
