@@ -9,6 +9,10 @@ use Rattle.folds.proofs.Below.{below-cases}
 abbrev pub Decided : Type 0 → Type 0
 Decided P = P ⊎ (P → ⊥)
 
+pub decided-map : {P Q : Type 0} → (P → Q) → (Q → P) → Decided P → Decided Q
+decided-map f g (inl p) = inl (f p)
+decided-map f g (inr n) = inr (λ q. n (g q))
+
 pub decided-not : {P : Type 0} → Decided P → Decided (P → ⊥)
 decided-not (inl p) = inr (λ n. n p)
 decided-not (inr n) = inl n

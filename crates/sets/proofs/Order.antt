@@ -3,9 +3,10 @@ use mathlib.Core.Path.{_≡_, refl, sym, ap, _∙_}
 use mathlib.Core.Logic.{_⊎_, inl, inr, ⊎-elim}
 use Prim.Native.Nat.{ℕ, zero, suc, _^_, _≤_, _<_}
 use native.Mathlib.Omega.{arith}
-use Rattle.folds.proofs.Below.{below-cases, lt-or-ge}
+use Rattle.folds.proofs.Below.{below-cases, lt-or-ge, eq-or-ne}
 use Rattle.sets.specs.Sets.{bit, weight, Before, Precedes}
-use Rattle.sets.proofs.Bits.{bit-cases, bits-equal}
+use Rattle.sets.proofs.Bits.{bit-cases, bits-equal, some-bit, bit-below}
+use Rattle.sets.proofs.Weight.{weight-empty, weight-out}
 
 pub before-not : (s s' : ℕ) → Before s s' → Before s' s → ⊥
 before-not s s' (i, a, b, e) (j, a', b', e') =
@@ -72,3 +73,15 @@ module _ (w : ℕ → ℕ) where
       equal e (inl all) = inl (inr (e, inl (bits-equal n s s' h h' all)))
       equal e (inr (inl b)) = inl (inr (e, inr b))
       equal e (inr (inr b)) = inr (inr (sym e, inr b))
+
+  -- where every test weighs something the empty set comes first
+  pub empty-first : ((t : ℕ) → 0 < w t) → (s : ℕ) → s < 2 ^ 24 → Precedes w 0 s
+  empty-first positive s h = ⊎-elim
+      (λ (e : s ≡ 0). inr (ap (weight w) (sym e), inl (sym e)))
+      (λ (ne : s ≡ 0 → ⊥). let b = some-bit s ne in inl (omega (arith, weight-empty w, weight-out w s (b .0) (bit-below 24 s (b .0) h (b .1)) (b .1), positive (b .0))))
+      (eq-or-ne s 0)
+
+-- {0} comes before {1}, and {0, 3} before {1, 2}
+example-order : Before 1 2 × Before 9 6
+unfolding bit
+example-order = ((0, refl, refl, λ u l. absurd (omega arith)), (0, refl, refl, λ u l. absurd (omega arith)))

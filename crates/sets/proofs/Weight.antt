@@ -5,7 +5,7 @@ use Prim.Native.Nat.{ℕ, zero, suc, _+_, _^_, _≤_, _<_}
 use native.Mathlib.Nat.{one-mul, zero-mul}
 use native.Mathlib.Omega.{arith}
 use Rattle.folds.specs.Fold.{pick, total, count}
-use Rattle.folds.proofs.Total.{total-same, total-apart, total-stays, total-more}
+use Rattle.folds.proofs.Total.{total-same, total-apart, total-stays, total-none, total-more}
 use Rattle.sets.specs.Sets.{bit, has, share, weight, one, size}
 use Rattle.sets.proofs.Bits.{bit-cases, bit-high, has-yes, has-no, top-bit, top-below, top-lt}
 use Rattle.sets.proofs.Flip.{flip, flip-out, flip-in, flip-other}
@@ -53,6 +53,9 @@ module _ (w : ℕ → ℕ) where
       let a : weight w (c + 2 ^ t) ≡ total (share w (c + 2 ^ t)) (suc t) = weight-below (suc t) (c + 2 ^ t) (omega arith) (top-lt c t h) in
       let b : total (share w (c + 2 ^ t)) t ≡ total (share w c) t = total-same _ _ t (λ i m. share-same (c + 2 ^ t) c i (top-below c t i h m)) in
       omega (arith, weight-below t c (omega arith) h, total-more (share w (c + 2 ^ t)) t, share-in (c + 2 ^ t) t (top-bit c t h))
+
+  pub weight-empty : weight w 0 ≡ 0
+  weight-empty = weight-below 0 0 (omega arith) (omega arith) ∙ total-none (share w 0)
 
 -- where each test weighs 1 the weight is the number of tests
 pub weight-counts : (s n : ℕ) → total (share one s) n ≡ count (has s) n
