@@ -1,0 +1,27 @@
+use native.Mathlib.Omega.{arith}
+use native.Mathlib.Nat.{add-zero}
+use borrow.Author.Needs.{needs}
+use Rattle.cover.specs.Collect.{withTest}
+use Rattle.cover.proofs.Collect.{one-shl, top-fits}
+use Rattle.cover.proofs.pairs.with_test.Statement.{statement}
+use Rattle.cover.proofs.pairs.with_test.Tie as tie
+
+cast-result : tie.Need-cast-result
+cast-result c = search needs
+
+shl-result : tie.Need-shl-result
+shl-result c = search needs
+
+add-result : tie.Need-add-result
+add-result c = rw (one-shl (c .before .args .t) (omega arith)) (omega (arith, top-fits _ _ (c .before .pre .0) (c .before .pre .1)))
+
+returns : tie.Need-returns
+unfolding withTest
+returns c = rw (one-shl (c .before .args .t) (omega arith), c .if1 .taken)
+
+returns-2 : tie.Need-returns-2
+unfolding withTest
+returns-2 c = rw (c .if1 .left, add-zero)
+
+pub with-test-spec : {M : Type 1} → statement M
+with-test-spec = tie.close (tie.spec cast-result shl-result add-result returns returns-2)

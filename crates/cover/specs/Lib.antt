@@ -1,0 +1,5 @@
+pub mod Collect
+pub mod Masks
+pub mod Filled
+pub mod Kept
+pub mod Answer

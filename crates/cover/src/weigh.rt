@@ -1,0 +1,121 @@
+// Tests weighed by the masks that they are in.
+ghost use mathlib.Core.Path.{_≡_};
+ghost use Prim.Native.Nat.{_≤_, _<_};
+ghost use lib.ListN.{getD};
+ghost use Rattle.cover.specs.Collect.{setOf};
+ghost use Rattle.cover.specs.Kept.{maskIs, used, follows, covers, outdoneBy, outdone, kept, lone};
+
+// Whether some mask has test t.
+fn used(masks: &[u32], t: usize) -> bool
+    requires { ⌜ t < 24 ⌝ }
+    ensures { λ r. ⌜ r ≡ used (now (masks .entry)) t ⌝ }
+{
+    let mut i: usize = 0;
+    while i < masks.len() {
+        if sets::inner::has(masks[i], t) {
+            return true;
+        }
+        i += 1;
+    }
+    false
+}
+
+// Whether the mask has test u where it has test t.
+fn follows(mask: u32, u: usize, t: usize) -> bool
+    requires { ⌜ (u < 24) × (t < 24) ⌝ }
+    ensures { λ r. ⌜ r ≡ follows u t mask ⌝ }
+{
+    if !sets::inner::has(mask, t) {
+        return true;
+    }
+    sets::inner::has(mask, u)
+}
+
+// Whether test u is in every mask that test t is in.
+fn covers(masks: &[u32], u: usize, t: usize) -> bool
+    requires { ⌜ (u < 24) × (t < 24) ⌝ }
+    ensures { λ r. ⌜ r ≡ covers (now (masks .entry)) u t ⌝ }
+{
+    let mut i: usize = 0;
+    while i < masks.len() {
+        if !follows(masks[i], u, t) {
+            return false;
+        }
+        i += 1;
+    }
+    true
+}
+
+// Whether test u outdoes test t: it is lower, and in every mask that t is in.
+fn outdoes(masks: &[u32], u: usize, t: usize) -> bool
+    requires { ⌜ (u < 24) × (t < 24) ⌝ }
+    ensures { λ r. ⌜ r ≡ outdoneBy (now (masks .entry)) t u ⌝ }
+{
+    if t <= u {
+        return false;
+    }
+    covers(masks, u, t)
+}
+
+// Whether some test outdoes test t.
+fn outdone(masks: &[u32], tests: usize, t: usize) -> bool
+    requires { ⌜ (tests ≤ 24) × (t < 24) ⌝ }
+    ensures { λ r. ⌜ r ≡ outdone (now (masks .entry)) tests t ⌝ }
+{
+    let mut i: usize = 0;
+    while i < tests {
+        if outdoes(masks, i, t) {
+            return true;
+        }
+        i += 1;
+    }
+    false
+}
+
+// Whether test t is kept: no test outdoes it, and some mask has it.
+pub fn is_kept(masks: &[u32], tests: usize, t: usize) -> bool
+    requires { ⌜ (tests ≤ 24) × (t < 24) ⌝ }
+    ensures { λ r. ⌜ r ≡ kept (now (masks .entry)) tests t ⌝ }
+{
+    if outdone(masks, tests, t) {
+        return false;
+    }
+    used(masks, t)
+}
+
+// Whether test t is the mask's only kept test.
+fn mask_is(mask: u32, kept: u32, t: usize) -> bool
+    requires { ⌜ t < 24 ⌝ }
+    ensures { λ r. ⌜ r ≡ maskIs kept t mask ⌝ }
+{
+    mask & kept == 1 << t
+}
+
+// Whether test t is some mask's only kept test.
+fn lone(masks: &[u32], kept: u32, t: usize) -> bool
+    requires { ⌜ t < 24 ⌝ }
+    ensures { λ r. ⌜ r ≡ lone (now (masks .entry)) kept t ⌝ }
+{
+    let mut i: usize = 0;
+    while i < masks.len() {
+        if mask_is(masks[i], kept, t) {
+            return true;
+        }
+        i += 1;
+    }
+    false
+}
+
+// The tests that are the only kept one of some mask.
+pub fn lone_tests(masks: &[u32], kept: u32, tests: usize) -> u32
+    requires { ⌜ tests ≤ 24 ⌝ }
+    ensures { λ r. ⌜ r ≡ setOf (lone (now (masks .entry)) kept) tests ⌝ }
+{
+    let mut set: u32 = 0;
+    let mut i: usize = 0;
+    while i < tests {
+        set = crate::pairs::with_test(set, i, lone(masks, kept, i));
+        i += 1;
+    }
+    set
+}
