@@ -1,0 +1,1 @@
+// What follows from the paper's terms alone: laws in proofs/. No code.
