@@ -169,7 +169,7 @@ alike-tells tb a b = tells-by (alike (outputAt tb) (tb .tests) a b)
     (λ h t w n. n (alike-at (outputAt tb) (tb .tests) a b t h w))
     (λ h k. let x = unlike-at (outputAt tb) (tb .tests) a b h in k (x .0) (x .1) (x .2))
 
-told-true : {P : Type 0} (r : Bool) → Tells r P → P → r ≡ true
+pub told-true : {P : Type 0} (r : Bool) → Tells r P → P → r ≡ true
 told-true true t p = refl
 told-true false t p = absurd (t p)
 
