@@ -2,9 +2,12 @@
 use mathlib.Core.Bool.{Bool, true, false, not}
 use mathlib.Core.List.{List}
 use mathlib.Core.Path.{_≡_, refl, sym, ap, _∙_}
-use Prim.Native.Nat.{ℕ, _≤_, _<_}
+use Prim.Native.Nat.{ℕ, _+_, _^_, _≤_, _<_}
+use native.Mathlib.Nat.{lt-of-le-of-lt}
 use borrow.Author.Tests.{le-leb, lt-leb, not-true, not-false}
 use lib.ListN.{length}
+use mir.Syntax.{w64}
+use mir.Val.{Fits}
 use Rattle.folds.specs.Fold.{onto}
 use Rattle.sets.specs.Sets.{within}
 use Rattle.table.specs.Answers.{writtenNumber}
@@ -48,3 +51,7 @@ module _ (tb : Table) (s : ℕ) (answer d : List ℕ) (r : Bool) (t : Tested tb 
       writes-0 w d′ h = record { number = rw (accepted tb r t q, ← e₂, not-false r₂ q₂, ← e, le-leb n (length d) w); count = e; buffer = h }
 
 pub ruleset writes = (writes-20, writes-21, writes-24, writes-0)
+
+-- the end of a part that lies in the buffer fits
+pub part-fits : (n at : ℕ) (d b : List ℕ) → at + n ≤ length b → length b ≡ length d → length d < 2 ^ 64 → Fits w64 (at + n)
+part-fits n at d b h l m = record { fits = lt-of-le-of-lt h (rw l m) }
