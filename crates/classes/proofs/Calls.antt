@@ -17,7 +17,8 @@ use Rattle.table.proofs.Formed.{accepted, rejected, few-columns}
 use Rattle.terms.specs.Columns.{lowest}
 use Rattle.terms_laws.proofs.Classes.{alike-tells}
 use Rattle.classes.specs.Classes.{unnumbered, numbersOf, classesOf}
-use Rattle.classes.specs.Undetectable.{undetected, setOf, UndetectableFault, UndetectableIn}
+use Rattle.classes.specs.Sets.{setOf}
+use Rattle.classes.specs.Undetectable.{undetected, UndetectableFault, UndetectableIn}
 use Rattle.classes.proofs.Sets.{set-has, set-high}
 use Rattle.table.specs.declared.Faults.the-variants as faults
 use Rattle.table.specs.declared.Verdict.the-variants as verdict

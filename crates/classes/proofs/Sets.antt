@@ -13,7 +13,7 @@ use Rattle.folds.specs.Fold.{pick}
 use Rattle.folds.proofs.Below.{below-cases}
 use Rattle.sets.specs.Sets.{has}
 use Rattle.sets.proofs.Bits.{bit-high, top-lt, top-bit, top-below, has-yes, has-no}
-use Rattle.classes.specs.Undetectable.{setOf}
+use Rattle.classes.specs.Sets.{setOf}
 
 module _ (p : ℕ → Bool) where
   pub set-lt : (n : ℕ) → setOf p n < 2 ^ n
@@ -45,19 +45,19 @@ module _ (p : ℕ → Bool) where
 
   -- ---- a loop `while i < n { if test(i) { set += 1 << i; } i += 1; } set`, with the invariant set ≡ setOf p i
 
-  shift : (i n : ℕ) → i < n → n ≤ 60 → 1 * 2 ^ i % 18446744073709551616 ≡ 2 ^ i
-  shift i n w h = ap (λ (x : ℕ). x % 2 ^ 64) (one-mul (2 ^ i)) ∙ mod-eq-of-lt (pow-lt {i = i} {j = 64} (omega arith))
+  shift : (i : ℕ) → i < 64 → 1 * 2 ^ i % 18446744073709551616 ≡ 2 ^ i
+  shift i w = ap (λ (x : ℕ). x % 2 ^ 64) (one-mul (2 ^ i)) ∙ mod-eq-of-lt (pow-lt {i = i} {j = 64} w)
 
   pub set-start : 0 ≡ setOf p 0
   unfolding setOf
   set-start = refl
 
-  pub set-fits : (n i s : ℕ) → i < n → n ≤ 60 → s ≡ setOf p i → Fits w64 (s + 1 * 2 ^ i % 18446744073709551616)
-  set-fits n i s w h e = record { fits = rw (shift i n w h, e) (lt-of-lt-of-le (top-lt (setOf p i) i (set-lt i)) (pow-mono {i = suc i} {j = 64} (omega arith))) }
+  pub set-fits : (i s : ℕ) → i < 64 → s ≡ setOf p i → Fits w64 (s + 1 * 2 ^ i % 18446744073709551616)
+  set-fits i s w e = record { fits = rw (shift i w, e) (lt-of-lt-of-le (top-lt (setOf p i) i (set-lt i)) (pow-mono {i = suc i} {j = 64} (omega arith))) }
 
-  pub set-up : (n i s s′ : ℕ) (r : Bool) → i < n → n ≤ 60 → s ≡ setOf p i → r ≡ p i → r ≡ true → s′ ≡ s + 1 * 2 ^ i % 18446744073709551616 → s′ ≡ setOf p (i + 1)
+  pub set-up : (i s s′ : ℕ) (r : Bool) → i < 64 → s ≡ setOf p i → r ≡ p i → r ≡ true → s′ ≡ s + 1 * 2 ^ i % 18446744073709551616 → s′ ≡ setOf p (i + 1)
   unfolding setOf
-  set-up n i s s′ r w h e q t g = g ∙ rw (shift i n w h, e, add-one i, ← q, t)
+  set-up i s s′ r w e q t g = g ∙ rw (shift i w, e, add-one i, ← q, t)
 
   pub set-on : (i s s′ : ℕ) (r : Bool) → s ≡ setOf p i → r ≡ p i → r ≡ false → s′ ≡ s → s′ ≡ setOf p (i + 1)
   unfolding setOf

@@ -2,7 +2,7 @@
 -- Assumes nothing.
 use mathlib.Core.Bool.{Bool, true}
 use mathlib.Core.Path.{_≡_}
-use Prim.Native.Nat.{ℕ, zero, suc, _+_, _^_, _<_}
+use Prim.Native.Nat.{ℕ, _+_, _<_}
 use Rattle.folds.specs.Fold.{pick, Tells}
 use Rattle.sets.specs.Sets.{has}
 use Rattle.table.specs.Answers.{faultsNumber, faultsSet}
@@ -15,11 +15,6 @@ use Rattle.terms.specs.Terms.{Undetectable}
 -- no test separates fault f from column 0
 unfoldable pub undetected : (ℕ → ℕ → ℕ) → ℕ → ℕ → Bool
 undetected out tests f = alike out tests 0 (f + 1)
-
--- the set of the numbers below n that have p
-unfoldable pub setOf : (ℕ → Bool) → ℕ → ℕ
-setOf p zero = 0
-setOf p (suc n) = setOf p n + pick (p n) (2 ^ n) 0
 
 -- f is one of the table's faults, and "a fault is undetectable when no test separates it from column 0"
 abbrev pub UndetectableFault : Table → ℕ → Type 0

@@ -2,8 +2,10 @@
 ghost use mathlib.Core.Path.{_≡_};
 ghost use Prim.Native.Nat.{_≤_, _<_};
 ghost use Rattle.folds.specs.Fold.{count};
+ghost use Rattle.sets.specs.Sets.{has};
 ghost use Rattle.table.specs.Table.{cellAt};
 ghost use Rattle.terms.specs.Columns.{agrees, alike, apart, lowest, lowestOf};
+ghost use Rattle.classes.specs.Sets.{setOf};
 
 // Whether test t gives the columns a and b one output.
 fn agrees(cells: &[u8; 1464], a: usize, b: usize, t: usize) -> bool
@@ -80,4 +82,28 @@ pub fn class_count(cells: &[u8; 1464], tests: usize, columns: usize) -> usize
         i += 1;
     }
     n
+}
+
+// The set of the columns that are the lowest of their class: bit c for column c.
+pub fn lowest_set(cells: &[u8; 1464], tests: usize, columns: usize) -> u64
+    requires { ⌜ (tests ≤ 24) × (columns ≤ 61) ⌝ }
+    ensures { λ r. ⌜ r ≡ setOf (lowest (cellAt (now (cells .entry))) tests) columns ⌝ }
+{
+    let mut set: u64 = 0;
+    let mut i = 0;
+    while i < columns {
+        if lowest(cells, tests, i) {
+            set += 1 << i;
+        }
+        i += 1;
+    }
+    set
+}
+
+// Whether the set holds i.
+pub fn holds(set: u64, i: usize) -> bool
+    requires { ⌜ i < 64 ⌝ }
+    ensures { λ r. ⌜ r ≡ has set i ⌝ }
+{
+    (set >> i) % 2 == 1
 }
