@@ -2,19 +2,21 @@
 use mathlib.Core.Bool.{Bool, true, false}
 use mathlib.Core.List.{List, []}
 use mathlib.Core.Logic.{⊎-elim}
-use mathlib.Core.Path.{_≡_, sym, ap, _∙_}
+use mathlib.Core.Path.{_≡_, refl, sym, ap, _∙_}
 use Prim.Native.Nat.{ℕ, zero, suc, _<_}
 use native.Mathlib.Numerals.{add-one}
 use native.Mathlib.Omega.{arith}
 use borrow.Author.Tests.{eq-eqb}
+use lib.Dec.{eqb}
 use lib.ListN.{length, getD, List·getD-append}
-use Rattle.folds.specs.Fold.{count, gather, single, onto}
+use Rattle.folds.specs.Fold.{pick, count, gather, single, onto}
 use Rattle.folds.proofs.Below.{lt-or-ge}
 use Rattle.folds.proofs.Count.{count-less, count-mono, count-reaches}
 use Rattle.folds.proofs.Gather.{gather-length}
 use Rattle.folds.proofs.Joined.{joined-none, joined-no}
 use Rattle.sets.specs.Sets.{has, within}
 use Rattle.sets.proofs.Bits.{bit-zero, has-no, within-of}
+use Rattle.table.specs.Answers.{verdictNumber}
 use Rattle.table.specs.Table.{outputAt, columns}
 use Rattle.table.specs.Test.{wellFormed}
 use Rattle.table.specs.declared.Suspects.{Suspects}
@@ -22,7 +24,7 @@ use Rattle.table.specs.declared.Table.{Table}
 use Rattle.terms.specs.Columns.{outputOf}
 use Rattle.terms.specs.Terms.{signature}
 use Rattle.terms_laws.proofs.Classes.{gather-get}
-use Rattle.suspects.specs.Suspects.{unlisted, itself, suspect, foundUnder, suspectsOf}
+use Rattle.suspects.specs.Suspects.{unlisted, itself, suspect, foundUnder, refusedBy, suspectsOf}
 use Rattle.suspects.proofs.Answers.{suspect-same, same-suspect}
 
 -- ---- the list of the numbers that have p
@@ -45,6 +47,18 @@ module _ (p : ℕ → Bool) (n : ℕ) where
           → (d : ℕ) × (d < n) × (p d ≡ true) × (count p d ≡ j) × (getD (onto (gather p itself n) unlisted) j 0 ≡ d)
           → getD (onto (gather p itself n) unlisted) i 0 < getD (onto (gather p itself n) unlisted) j 0
       go (c, _, _, ec, gc) (d, _, _, ed, gd) = rw (gc, gd) (⊎-elim (λ k. k) (λ k. absurd (omega (arith, count-mono p d c k))) (lt-or-ge c d))
+
+-- ---- the paper's number
+
+pub suspects-number : (tb : Table) (s : ℕ) (seen : List ℕ) (a : Suspects) → a ≡ suspectsOf tb s seen
+    → verdictNumber (a .verdict) ≡ pick (wellFormed tb) (pick (within s (tb .tests)) (pick (eqb (length seen) (count (has s) (tb .tests))) 0 25) 21) 20
+unfolding suspectsOf foundUnder refusedBy
+suspects-number tb s seen a e =
+    rw e (go (wellFormed tb) _ _ _ _ (go (within s (tb .tests)) _ _ _ _ (go (eqb (length seen) (count (has s) (tb .tests))) _ _ _ _ refl refl) refl) refl)
+  where
+    go : (b : Bool) (x y : Suspects) (m n : ℕ) → verdictNumber (x .verdict) ≡ m → verdictNumber (y .verdict) ≡ n → verdictNumber (pick b x y .verdict) ≡ pick b m n
+    go true x y m n h k = h
+    go false x y m n h k = k
 
 -- ---- an accepted call
 
