@@ -23,12 +23,12 @@ use Rattle.suspects.specs.Suspects.{equal, unlisted, itself, answers, su
 
 -- ---- equal lists
 
-pub equal-refl : (xs : List ℕ) → equal xs xs ≡ true
+equal-refl : (xs : List ℕ) → equal xs xs ≡ true
 unfolding equal
 equal-refl [] = refl
 equal-refl (x ∷ xs) = both-true _ _ (eq-eqb x x refl) (equal-refl xs)
 
-pub equal-same : (xs ys : List ℕ) → equal xs ys ≡ true → xs ≡ ys
+equal-same : (xs ys : List ℕ) → equal xs ys ≡ true → xs ≡ ys
 unfolding equal
 equal-same [] [] h = refl
 equal-same [] (y ∷ ys) h = clash _ h refl
@@ -72,7 +72,7 @@ module _ (out : ℕ → ℕ → ℕ) (tests s : ℕ) (seen : List ℕ) where
         go true e k = (e, eqb-false _ _ k)
         go false e k = clash true refl k
 
-    pub suspect-answers : every (answers out s seen c) tests ≡ suspect out tests s seen c
+    suspect-answers : every (answers out s seen c) tests ≡ suspect out tests s seen c
     suspect-answers = go (every (answers out s seen c) tests) (suspect out tests s seen c) refl refl
       where
         go : (a b : Bool) → every (answers out s seen c) tests ≡ a → suspect out tests s seen c ≡ b → a ≡ b

@@ -63,7 +63,7 @@ suspects-number tb s seen a e =
 -- ---- an accepted call
 
 module _ (tb : Table) (s : ℕ) (seen : List ℕ) (formed : wellFormed tb ≡ true) (known : within s (tb .tests) ≡ true) (each : length seen ≡ count (has s) (tb .tests)) where
-  pub answer-found : suspectsOf tb s seen ≡ foundUnder (outputAt tb) (tb .tests) s seen (columns tb)
+  answer-found : suspectsOf tb s seen ≡ foundUnder (outputAt tb) (tb .tests) s seen (columns tb)
   unfolding suspectsOf
   answer-found = rw (formed, known, eq-eqb _ _ each)
 

@@ -16,11 +16,14 @@ use Rattle.folds.proofs.Below.{lt-or-ge, eq-or-ne}
 use Rattle.folds.proofs.Bools.{both-true, both-left, both-right, clash}
 use Rattle.folds.proofs.Count.{count-yes, count-mono, count-less}
 use Rattle.folds.proofs.First.{first-below, first-has}
-use Rattle.folds.proofs.Joined.{joined-part}
+use Rattle.folds.proofs.Joined.{joined-part, joined-mono, rows-at}
 use Rattle.folds.proofs.Gather.{gather-length}
+use Rattle.lent.specs.Lent.{setNumber, WritesOnto}
+use Rattle.lent.proofs.Lent.{writes-byte}
 use Rattle.sets.specs.Sets.{has}
 use Rattle.table.specs.Table.{outputAt, columns}
 use Rattle.table.specs.declared.Table.{Table}
+use Rattle.table.specs.declared.Written.the-variants.{Bytes}
 use Rattle.terms.specs.Columns.{agrees, alike, lowest, lowestOf, classNumber, outputsUnder}
 use Rattle.terms.specs.Terms.{classOf, classCount}
 use Rattle.terms_laws.proofs.Classes.{gather-get, alike-at, alike-sym, lowest-le, lowest-alike, lowest-of, class-lowest, signature-of, signature-at}
@@ -45,7 +48,7 @@ row-place i k sum h =
 module _ (out : ℕ → ℕ → ℕ) (tests s : ℕ) where
   -- ---- the witness of two columns
 
-  pub separates-yes : (a b t : ℕ) → has s t ≡ true → (out t a ≡ out t b → ⊥) → separates out s a b t ≡ true
+  separates-yes : (a b t : ℕ) → has s t ≡ true → (out t a ≡ out t b → ⊥) → separates out s a b t ≡ true
   unfolding separates agrees
   separates-yes a b t h n = both-true _ _ h (rw (ne-eqb (out t a) (out t b) n))
 
@@ -135,32 +138,62 @@ module _ (out : ℕ → ℕ → ℕ) (tests s : ℕ) where
         (omega (arith, gather-length (above out tests a) (witnessOf out tests s a) n, count-less (above out tests a) b n w (is-above a b l k)))
         ∙ gather-get (above out tests a) (witnessOf out tests s a) n b w (is-above a b l k)
 
+    below-sheet : (a b : ℕ) → a < b → b < n → lowest out tests a ≡ true → lowest out tests b ≡ true
+        → rowsTo out tests s n a + count (above out tests a) b < length (sheetUnder out tests s n)
+    below-sheet a b l w h k =
+        omega (
+          arith,
+          gather-length (above out tests a) (witnessOf out tests s a) n,
+          count-less (above out tests a) b n w (is-above a b l k),
+          rows-at (lowest out tests) (witnesses out tests s n) a _ _ _ true refl (sym h) refl refl refl,
+          joined-mono (lowest out tests) (witnesses out tests s n) (a + 1) n (omega arith),
+        )
+
     lower : (c d : ℕ) → classNumber out tests c < classNumber out tests d → lowestOf out tests c < lowestOf out tests d
     lower c d w = ⊎-elim
         (λ l. l)
         (λ l. absurd (omega (arith, class-lowest out tests c, class-lowest out tests d, count-mono (lowest out tests) (lowestOf out tests d) (lowestOf out tests c) l)))
         (lt-or-ge (lowestOf out tests c) (lowestOf out tests d))
 
-    -- the witness of the classes i < j of k stands at i (2 k - i - 1) / 2 + j - i - 1
-    pub witness-place : (c d i j k : ℕ) → d < n → i ≡ classNumber out tests c → j ≡ classNumber out tests d → k ≡ count (lowest out tests) n → i < j
-        → getD (sheetUnder out tests s n) (i * (2 * k - i - 1) / 2 + (j - i - 1)) 0 ≡ witnessOf out tests s c d
-    witness-place c d i j k w ei ej ek l =
-        let a : ℕ = lowestOf out tests c in
-        let b : ℕ = lowestOf out tests d in
-        let v : a < b = lower c d (rw (← ei, ← ej) l) in
-        let u : b < n = omega (arith, lowest-le out tests d) in
-        let fi : i ≡ count (lowest out tests) a = ei ∙ class-lowest out tests c in
-        let fj : j ≡ count (lowest out tests) b = ej ∙ class-lowest out tests d in
-        let m : j - i - 1 ≡ count (above out tests a) b = omega (arith, above-count out tests a b v, count-yes (lowest out tests) a (lowest-of out tests c)) in
-        let p : rowsTo out tests s n a ≡ i * (2 * k - i - 1) / 2 = row-place i k (rowsTo out tests s n a) (rw (fi, ek) (rows-sum out tests s n a (omega arith))) in
-        rw (← p, m) (lowest-place a b v u (lowest-of out tests c) (lowest-of out tests d))
-        ∙ witness-same a b c d (alike-sym out tests c a (lowest-alike out tests c)) (alike-sym out tests d b (lowest-alike out tests d))
+    module _ (c d i j k : ℕ) (w : d < n) (ei : i ≡ classNumber out tests c) (ej : j ≡ classNumber out tests d) (ek : k ≡ count (lowest out tests) n) (l : i < j) where
+      lower-lowest : lowestOf out tests c < lowestOf out tests d
+      lower-lowest = lower c d (rw (← ei, ← ej) l)
+
+      lowest-below : lowestOf out tests d < n
+      lowest-below = omega (arith, lowest-le out tests d)
+
+      place-is : rowsTo out tests s n (lowestOf out tests c) + count (above out tests (lowestOf out tests c)) (lowestOf out tests d) ≡ i * (2 * k - i - 1) / 2 + (j - i - 1)
+      place-is =
+          let a : ℕ = lowestOf out tests c in
+          let fi : i ≡ count (lowest out tests) a = ei ∙ class-lowest out tests c in
+          let fj : j ≡ count (lowest out tests) (lowestOf out tests d) = ej ∙ class-lowest out tests d in
+          let p : rowsTo out tests s n a ≡ i * (2 * k - i - 1) / 2 = row-place i k (rowsTo out tests s n a) (rw (fi, ek) (rows-sum out tests s n a (omega (arith, lower-lowest, lowest-below)))) in
+          omega (arith, p, above-count out tests a (lowestOf out tests d) lower-lowest, count-yes (lowest out tests) a (lowest-of out tests c))
+
+      -- the witness of the classes i < j of k stands at i (2 k - i - 1) / 2 + j - i - 1
+      pub witness-place : getD (sheetUnder out tests s n) (i * (2 * k - i - 1) / 2 + (j - i - 1)) 0 ≡ witnessOf out tests s c d
+      witness-place =
+          rw (← place-is) (lowest-place (lowestOf out tests c) (lowestOf out tests d) lower-lowest lowest-below (lowest-of out tests c) (lowest-of out tests d))
+          ∙ witness-same _ _ c d (alike-sym out tests c _ (lowest-alike out tests c)) (alike-sym out tests d _ (lowest-alike out tests d))
+
+      pub place-below : i * (2 * k - i - 1) / 2 + (j - i - 1) < length (sheetUnder out tests s n)
+      place-below = rw (← place-is) (below-sheet (lowestOf out tests c) (lowestOf out tests d) lower-lowest lowest-below (lowest-of out tests c) (lowest-of out tests d))
 
 -- ---- the sheet of a table
 
 pub sheet-length : (tb : Table) (s : ℕ) → length (sheetOf tb s) ≡ classCount tb * (classCount tb - 1) / 2
 sheet-length tb s = sym (sheet-size (outputAt tb) (tb .tests) s (columns tb) (classCount tb) refl)
 
-pub sheet-place : (tb : Table) (s c d : ℕ) → d < columns tb → classOf tb c < classOf tb d
-    → getD (sheetOf tb s) (classOf tb c * (2 * classCount tb - classOf tb c - 1) / 2 + (classOf tb d - classOf tb c - 1)) 0 ≡ witnessOf (outputAt tb) (tb .tests) s c d
-sheet-place tb s c d w l = witness-place (outputAt tb) (tb .tests) s (columns tb) c d _ _ _ w refl refl refl l
+-- where the witness of the classes of the columns c and d stands
+abbrev pub witnessPlace : Table → ℕ → ℕ → ℕ
+witnessPlace tb c d = classOf tb c * (2 * classCount tb - classOf tb c - 1) / 2 + (classOf tb d - classOf tb c - 1)
+
+module _ (tb : Table) (s c d : ℕ) (w : d < columns tb) (l : classOf tb c < classOf tb d) where
+  pub sheet-place : getD (sheetOf tb s) (witnessPlace tb c d) 0 ≡ witnessOf (outputAt tb) (tb .tests) s c d
+  sheet-place = witness-place (outputAt tb) (tb .tests) s (columns tb) c d _ _ _ w refl refl refl l
+
+  -- and so it stands in the buffer that an accepted call leaves
+  pub written-witness : (n : ℕ) (b e : List ℕ) → WritesOnto (setNumber tb s) (sheetOf tb s) b (Bytes n) e → getD e (witnessPlace tb c d) 0 ≡ witnessOf (outputAt tb) (tb .tests) s c d
+  written-witness n b e a =
+      writes-byte (setNumber tb s) (sheetOf tb s) b n e a (witnessPlace tb c d) (place-below (outputAt tb) (tb .tests) s (columns tb) c d _ _ _ w refl refl refl l)
+      ∙ sheet-place
