@@ -1,0 +1,5 @@
+pub mod Weights
+pub mod Tree
+pub mod Bound
+pub mod Root
+pub mod Pins

@@ -1,0 +1,101 @@
+-- The root of the search: what is found there among the kept tests is the choice. Assumes nothing.
+use mathlib.Core.List.{List}
+use mathlib.Core.Logic.{inr, ⊎-elim}
+use mathlib.Core.Path.{_≡_, refl, sym}
+use Prim.Native.Nat.{ℕ, _^_, _≤_, _<_}
+use native.Mathlib.Nat.{mod-one}
+use native.Mathlib.Omega.{arith}
+use borrow.Author.Tests.{le-leb, lt-leb}
+use lib.ListN.{take}
+use Rattle.folds.proofs.Below.{lt-or-ge}
+use Rattle.sets.specs.Sets.{Within, one}
+use Rattle.sets.proofs.Bits.{below-of-bits}
+use Rattle.sets.proofs.Weight.{weight-empty}
+use Rattle.table.specs.WellFormed.{WellFormed}
+use Rattle.table.specs.declared.Chosen.the-variants.{Tests, Refused}
+use Rattle.table.specs.declared.Refusal.the-variants.{NoneWithinCap}
+use Rattle.table.specs.declared.Goal.{Goal}
+use Rattle.table.specs.declared.Table.{Table}
+use Rattle.terms.specs.Terms.{Reaches, Kept}
+use Rattle.terms_laws.proofs.Choice.{choice-exists, choice-fewest, strike-out}
+use Rattle.cover.specs.declared.inner.Masks.{Masks}
+use Rattle.cover.specs.Answer.{keptSet}
+use Rattle.cover.specs.Collect.{setOf}
+use Rattle.cover.specs.Filled.{Filled}
+use Rattle.cover.specs.Kept.{kept}
+use Rattle.cover.specs.Masks.{masksOf}
+use Rattle.cover.proofs.Fill.{filled-take}
+use Rattle.cover.proofs.Goals.{hits-reaches, reaches-hits}
+use Rattle.cover.proofs.Aside.{set-kept, kept-set}
+use Rattle.choice.specs.declared.search.Found.{Found}
+use Rattle.choice.specs.declared.search.Found.the-variants.{Set, Nothing}
+use Rattle.choice.specs.Answer.{Sought, withinCap, ChoiceIs}
+use Rattle.choice.specs.Search.{Node, Open, Best}
+use Rattle.choice.proofs.Weights.{size-most}
+
+pub one-positive : (t : ℕ) → 0 < one t
+unfolding one
+one-positive t = omega arith
+
+pub one-is : (t : ℕ) → one t ≡ 1
+unfolding one
+one-is t = refl
+
+-- nothing is decided
+pub node-root : (w : ℕ → ℕ) (masks : List ℕ) → Node w masks 0 0 0 0
+node-root w masks = record { depth = omega arith; decided = omega arith; weighed = sym (weight-empty w); start = omega arith; hit = λ k l. absurd (omega arith) }
+
+module _ (tb : Table) (formed : WellFormed tb) (goal : Goal) where
+  -- every set of kept tests that reaches the goal is open
+  open-root : (s : ℕ) → Within (Kept tb goal) s → Reaches tb goal s → Open one (masksOf tb goal) (keptSet tb goal) 0 0 25 s
+  open-root s within reaches =
+      let below : s < 2 ^ 24 = below-of-bits 24 s (λ t e. omega (arith, within t e .0, formed .tests-fit)) in
+      record {
+        below = below;
+        agrees = mod-one s;
+        keeps = λ t l e. kept-set tb goal t (within t e);
+        hits = reaches-hits tb goal s reaches;
+        light = omega (arith, size-most s below);
+      }
+
+  pub sought : (r : Found) → Best one (masksOf tb goal) (keptSet tb goal) 0 0 25 r → Sought tb goal r
+  sought (Set s n) b = (
+    strike-out tb formed goal s .1 (record {
+      within = λ t e. set-kept tb goal t (b .0 .keeps t (omega arith) e);
+      reaches = hits-reaches tb goal s (b .0 .hits);
+      first = λ s' h r. b .2 s' (open-root s' h r);
+    }),
+    b .1,
+  )
+  sought Nothing b =
+      let c = choice-exists tb goal in
+      let k = strike-out tb formed goal (c .0) .0 (c .1) in
+      b (c .0) (open-root (c .0) (k .within) (k .reaches))
+
+  -- the same for the masks and the kept tests as the code has them
+  pub sought-by : (m : Masks) → Filled tb goal m → (keep : ℕ) → keep ≡ setOf (kept (take (m .count) (m .list)) (tb .tests)) (tb .tests)
+      → (r : Found) → Best one (take (m .count) (m .list)) keep 0 0 25 r → Sought tb goal r
+  unfolding keptSet
+  sought-by m f keep e r b = sought r (rw (e, filled-take tb goal m f) at b)
+
+  -- ---- the cap
+
+  pub capped : (cap : ℕ) → cap ≤ 24 → (r : Found) → Sought tb goal r → ChoiceIs tb goal cap (withinCap r cap)
+  capped cap l (Set s n) (c, e) = ⊎-elim
+      (λ (m : cap < n). rw (lt-leb n cap m) (inr (inr (refl, formed, l, λ s' h r. omega (arith, choice-fewest tb goal s s' c h r)))))
+      (λ (m : n ≤ cap). rw (le-leb n cap m) (formed, l, c, omega arith))
+      (lt-or-ge cap n)
+  capped cap l Nothing none = absurd none
+
+-- ---- the code's tests
+
+module _ (found : Found) (cap : ℕ) where
+  module _ (s n : ℕ) (e : found ≡ Set s n) where
+    pub cap-holds : n ≤ cap → Tests s ≡ withinCap found cap
+    cap-holds l = rw (e, le-leb n cap l)
+
+    pub cap-fails : cap < n → Refused NoneWithinCap ≡ withinCap found cap
+    cap-fails l = rw (e, lt-leb n cap l)
+
+  pub cap-none : found ≡ Nothing → Refused NoneWithinCap ≡ withinCap found cap
+  cap-none e = rw e
