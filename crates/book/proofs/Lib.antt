@@ -1,0 +1,6 @@
+pub mod Places
+pub mod Judged
+pub mod Steps
+pub mod Loop
+pub mod Sounds
+pub mod Pins

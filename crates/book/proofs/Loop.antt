@@ -1,0 +1,49 @@
+-- The loop over the steps: what is left to read gives the reading of the whole book. Assumes nothing.
+-- reading on from a place, with steps enough, gives the reading of the book
+use mathlib.Core.List.{List}
+use mathlib.Core.Path.{_≡_, refl}
+use Prim.Native.Nat.{ℕ, zero, suc, _+_, _≤_}
+use native.Mathlib.Omega.{arith}
+use lib.Dec.{lit≤}
+use lib.ListN.{length}
+use Rattle.table.specs.Table.{emptyTable}
+use Rattle.book.specs.declared.Outcome.the-variants.{Given}
+use Rattle.book.specs.declared.Record.{Record}
+use Rattle.book.specs.declared.SoFar.{SoFar}
+use Rattle.book.specs.declared.Stepped.{Stepped}
+use Rattle.book.specs.Step.{start, CountsFit, stepAt}
+use Rattle.book.specs.Reading.{after, readFrom, readBook}
+use Rattle.book.proofs.Steps.{steps, Goes, goes}
+
+pub record Reads (book : List ℕ) (place : ℕ) (sofar : SoFar) : Type 0 where
+  pub fuel : ℕ
+  pub enough : length book ≤ place + fuel
+  pub counts : CountsFit sofar
+  pub same : readFrom (suc fuel) book place sofar ≡ readBook book
+
+pub start-counts : CountsFit start
+unfolding emptyTable
+start-counts = record { tests = lit≤ tt; faults = lit≤ tt }
+
+pub begins : (book : List ℕ) (sofar : SoFar) → sofar ≡ start → Reads book 0 sofar
+unfolding readBook
+begins book sofar e = rw e (record { fuel = length book; enough = omega arith; counts = start-counts; same = refl })
+
+module _ (book : List ℕ) (place : ℕ) (sofar : SoFar) (s : Stepped) (r : Reads book place sofar) (e : s ≡ stepAt book place sofar) where
+  -- what the step says, and what follows it
+  pub turn : after (s .outcome) s (readFrom (r .fuel) book (s .place) (s .sofar)) ≡ readBook book
+  turn = rw e (r .same)
+
+  module _ (x : Record) (o : s .outcome ≡ Given x) where
+    pub moved : Goes book place s
+    moved = rw e (goes (r .counts) (steps book place sofar) x (rw e at o))
+
+    pub onwards : Reads book (s .place) (s .sofar)
+    onwards = go (r .fuel) (r .enough) (rw o at turn)
+      where
+        g : Goes book place s
+        g = moved
+
+        go : (n : ℕ) → length book ≤ place + n → readFrom n book (s .place) (s .sofar) ≡ readBook book → Reads book (s .place) (s .sofar)
+        go zero h q = absurd (omega (arith, g .further, g .inside))
+        go (suc n) h q = record { fuel = n; enough = omega (arith, g .further); counts = g .counts; same = q }

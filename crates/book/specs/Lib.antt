@@ -1,0 +1,6 @@
+pub mod Grow
+pub mod Step
+pub mod Reading
+pub mod Sound
+pub mod Given
+pub mod BookOf

@@ -1,0 +1,5 @@
+pub mod Numbers
+pub mod Sets
+pub mod Calls
+pub mod Meaning
+pub mod Pins

@@ -1,0 +1,14 @@
+use borrow.Author.Needs.{needs}
+use Rattle.sets.specs.Sets.{bit, has}
+use Rattle.classes.proofs.inner.holds.Statement.{statement}
+use Rattle.classes.proofs.inner.holds.Tie as tie
+
+shr-result : tie.Need-shr-result
+shr-result c = search needs
+
+returns : tie.Need-returns
+unfolding has bit
+returns c = search needs
+
+pub holds-spec : {M : Type 1} → statement M
+holds-spec = tie.close (tie.spec shr-result returns)

@@ -1,0 +1,57 @@
+-- Laws of calls that write to a lent buffer: their answers, and that the promise leaves one. Assumes nothing.
+use mathlib.Core.Bool.{Bool, true, false, not}
+use mathlib.Core.List.{List}
+use mathlib.Core.Path.{_≡_, refl, sym, ap, _∙_}
+use Prim.Native.Nat.{ℕ, _+_, _^_, _≤_, _<_}
+use native.Mathlib.Nat.{lt-of-le-of-lt}
+use borrow.Author.Tests.{le-leb, lt-leb, not-true, not-false}
+use lib.ListN.{length}
+use mir.Syntax.{w64}
+use mir.Val.{Fits}
+use Rattle.folds.specs.Fold.{onto}
+use Rattle.sets.specs.Sets.{within}
+use Rattle.table.specs.Answers.{writtenNumber}
+use Rattle.table.specs.Test.{Tested}
+use Rattle.table.specs.declared.Refusal.the-variants.{NotWellFormed, UnknownTest, BufferShort}
+use Rattle.table.specs.declared.Table.{Table}
+use Rattle.table.specs.declared.Written.{Written}
+use Rattle.table.specs.declared.Written.the-variants.{Bytes, Refused}
+use Rattle.table.proofs.Answers.{written-one}
+use Rattle.table.proofs.Formed.{accepted, rejected}
+use Rattle.lent.specs.Lent.{accept, setNumber, roomNumber, WritesOnto}
+
+-- the promise leaves one answer and one buffer
+pub writes-pins : (earlier : ℕ) (answer d : List ℕ) (r₁ r₂ : Written) (e₁ e₂ : List ℕ) → WritesOnto earlier answer d r₁ e₁ → WritesOnto earlier answer d r₂ e₂
+    → (r₁ ≡ r₂) × (e₁ ≡ e₂)
+writes-pins earlier answer d r₁ r₂ e₁ e₂ a b =
+    let n : writtenNumber r₁ ≡ writtenNumber r₂ = a .number ∙ sym (b .number) in (
+      written-one r₁ r₂ n (a .count ∙ ap (λ (m : ℕ). accept m (length answer) 0) n ∙ sym (b .count)),
+      a .buffer ∙ ap (λ (m : ℕ). accept m (onto answer d) d) n ∙ sym (b .buffer),
+    )
+
+-- ---- the returns of a call on a table and a set, in their order; d is what the buffer held
+
+module _ (tb : Table) (s : ℕ) (answer d : List ℕ) (r : Bool) (t : Tested tb r) where
+  pub writes-20 : not r ≡ true → WritesOnto (setNumber tb s) answer d (Refused NotWellFormed) d
+  unfolding setNumber roomNumber
+  writes-20 q = record { number = rw (rejected tb r t q); count = refl; buffer = refl }
+
+  module _ (q : not r ≡ false) (r₂ : Bool) (e₂ : r₂ ≡ within s (tb .tests)) where
+    pub writes-21 : not r₂ ≡ true → WritesOnto (setNumber tb s) answer d (Refused UnknownTest) d
+    unfolding setNumber roomNumber
+    writes-21 q₂ = record { number = rw (accepted tb r t q, ← e₂, not-true r₂ q₂); count = refl; buffer = refl }
+
+    module _ (q₂ : not r₂ ≡ false) (n : ℕ) (e : n ≡ length answer) where
+      pub writes-24 : length d < n → WritesOnto (setNumber tb s) answer d (Refused BufferShort) d
+      unfolding setNumber roomNumber
+      writes-24 w = record { number = rw (accepted tb r t q, ← e₂, not-false r₂ q₂, ← e, lt-leb n (length d) w); count = refl; buffer = refl }
+
+      pub writes-0 : n ≤ length d → (d′ : List ℕ) → d′ ≡ onto answer d → WritesOnto (setNumber tb s) answer d (Bytes n) d′
+      unfolding setNumber roomNumber
+      writes-0 w d′ h = record { number = rw (accepted tb r t q, ← e₂, not-false r₂ q₂, ← e, le-leb n (length d) w); count = e; buffer = h }
+
+pub ruleset writes = (writes-20, writes-21, writes-24, writes-0)
+
+-- the end of a part that lies in the buffer fits
+pub part-fits : (n at : ℕ) (d b : List ℕ) → at + n ≤ length b → length b ≡ length d → length d < 2 ^ 64 → Fits w64 (at + n)
+part-fits n at d b h l m = record { fits = lt-of-le-of-lt h (rw l m) }
