@@ -1,3 +1,4 @@
+pub mod Swap
 pub mod Weights
 pub mod Tree
 pub mod Bound

@@ -1,12 +1,13 @@
 -- The root of the search: what is found there among the kept tests is the choice. Assumes nothing.
-use mathlib.Core.List.{List}
+use mathlib.Core.List.{List, _++_}
 use mathlib.Core.Logic.{inr, ⊎-elim}
-use mathlib.Core.Path.{_≡_, refl, sym}
+use mathlib.Core.Path.{_≡_, refl, sym, ap, _∙_}
 use Prim.Native.Nat.{ℕ, _^_, _≤_, _<_}
 use native.Mathlib.Nat.{mod-one}
 use native.Mathlib.Omega.{arith}
 use borrow.Author.Tests.{le-leb, lt-leb}
-use lib.ListN.{take}
+use lib.ListN.{length, take, drop, length-append}
+use lib.Seq.{take-append-seam}
 use Rattle.folds.proofs.Below.{lt-or-ge}
 use Rattle.sets.specs.Sets.{Within, one}
 use Rattle.sets.proofs.Bits.{below-of-bits}
@@ -24,12 +25,13 @@ use Rattle.cover.specs.Collect.{setOf}
 use Rattle.cover.specs.Filled.{Filled}
 use Rattle.cover.specs.Kept.{kept}
 use Rattle.cover.specs.Masks.{masksOf}
-use Rattle.cover.proofs.Fill.{filled-take}
+use Rattle.cover.proofs.Fill.{filled-take, filled-part}
 use Rattle.cover.proofs.Goals.{hits-reaches, reaches-hits}
 use Rattle.cover.proofs.Aside.{set-kept, kept-set}
 use Rattle.choice.specs.declared.search.Found.{Found}
 use Rattle.choice.specs.declared.search.Found.the-variants.{Set, Nothing}
 use Rattle.choice.specs.Answer.{Sought, withinCap, ChoiceIs}
+use Rattle.choice.specs.Order.{Reordered}
 use Rattle.choice.specs.Search.{Node, Open, Best}
 use Rattle.choice.proofs.Weights.{size-most}
 
@@ -45,38 +47,56 @@ one-is t = refl
 pub node-root : (w : ℕ → ℕ) (masks : List ℕ) → Node w masks 0 0 0 0
 node-root w masks = record { depth = omega arith; decided = omega arith; weighed = sym (weight-empty w); start = omega arith; hit = λ k l. absurd (omega arith) }
 
-module _ (tb : Table) (formed : WellFormed tb) (goal : Goal) where
-  -- every set of kept tests that reaches the goal is open
-  open-root : (s : ℕ) → Within (Kept tb goal) s → Reaches tb goal s → Open one (masksOf tb goal) (keptSet tb goal) 0 0 25 s
-  open-root s within reaches =
-      let below : s < 2 ^ 24 = below-of-bits 24 s (λ t e. omega (arith, within t e .0, formed .tests-fit)) in
-      record {
-        below = below;
-        agrees = mod-one s;
-        keeps = λ t l e. kept-set tb goal t (within t e);
-        hits = reaches-hits tb goal s reaches;
-        light = omega (arith, size-most s below);
-      }
+-- the masks after they were put in another order where they stand
+module _ (tb : Table) (goal : Goal) (m : Masks) (f : Filled tb goal m) (row : List ℕ) (o : Reordered (take (m .count) (m .list)) row) where
+  row-long : m .count ≡ length row
+  row-long = filled-part tb goal m f ∙ sym (o .long)
 
-  pub sought : (r : Found) → Best one (masksOf tb goal) (keptSet tb goal) 0 0 25 r → Sought tb goal r
-  sought (Set s n) b = (
-    strike-out tb formed goal s .1 (record {
-      within = λ t e. set-kept tb goal t (b .0 .keeps t (omega arith) e);
-      reaches = hits-reaches tb goal s (b .0 .hits);
-      first = λ s' h r. b .2 s' (open-root s' h r);
-    }),
-    b .1,
-  )
-  sought Nothing b =
-      let c = choice-exists tb goal in
-      let k = strike-out tb formed goal (c .0) .0 (c .1) in
-      b (c .0) (open-root (c .0) (k .within) (k .reaches))
+  row-part : take (m .count) (row ++ drop (m .count) (m .list)) ≡ row
+  row-part = rw row-long (take-append-seam row (drop (length row) (m .list)))
+
+  pub row-slice : m .count ≡ length (take (m .count) (row ++ drop (m .count) (m .list)))
+  row-slice = row-long ∙ ap length (sym row-part)
+
+  pub row-fits : m .count ≤ length (row ++ drop (m .count) (m .list))
+  row-fits = rw length-append (omega (arith, row-long))
+
+module _ (tb : Table) (formed : WellFormed tb) (goal : Goal) where
+  -- the masks of the goal, in any order
+  module _ (masks : List ℕ) (order : Reordered (masksOf tb goal) masks) where
+    -- every set of kept tests that reaches the goal is open
+    open-root : (s : ℕ) → Within (Kept tb goal) s → Reaches tb goal s → Open one masks (keptSet tb goal) 0 0 25 s
+    open-root s within reaches =
+        let below : s < 2 ^ 24 = below-of-bits 24 s (λ t e. omega (arith, within t e .0, formed .tests-fit)) in
+        record {
+          below = below;
+          agrees = mod-one s;
+          keeps = λ t l e. kept-set tb goal t (within t e);
+          hits = order .hits s (reaches-hits tb goal s reaches);
+          light = omega (arith, size-most s below);
+        }
+
+    sought : (r : Found) → Best one masks (keptSet tb goal) 0 0 25 r → Sought tb goal r
+    sought (Set s n) b = (
+      strike-out tb formed goal s .1 (record {
+        within = λ t e. set-kept tb goal t (b .0 .keeps t (omega arith) e);
+        reaches = hits-reaches tb goal s (order .hit s (b .0 .hits));
+        first = λ s' h r. b .2 s' (open-root s' h r);
+      }),
+      b .1,
+    )
+    sought Nothing b =
+        let c = choice-exists tb goal in
+        let k = strike-out tb formed goal (c .0) .0 (c .1) in
+        b (c .0) (open-root (c .0) (k .within) (k .reaches))
 
   -- the same for the masks and the kept tests as the code has them
-  pub sought-by : (m : Masks) → Filled tb goal m → (keep : ℕ) → keep ≡ setOf (kept (take (m .count) (m .list)) (tb .tests)) (tb .tests)
-      → (r : Found) → Best one (take (m .count) (m .list)) keep 0 0 25 r → Sought tb goal r
+  pub sought-by : (m : Masks) → Filled tb goal m → (row : List ℕ) → Reordered (take (m .count) (m .list)) row
+      → (keep : ℕ) → keep ≡ setOf (kept (take (m .count) (m .list)) (tb .tests)) (tb .tests)
+      → (r : Found) → Best one (take (m .count) (row ++ drop (m .count) (m .list))) keep 0 0 25 r → Sought tb goal r
   unfolding keptSet
-  sought-by m f keep e r b = sought r (rw (e, filled-take tb goal m f) at b)
+  sought-by m f row o keep e r b =
+      sought row (rw (filled-take tb goal m f) at o) r (rw (e, filled-take tb goal m f, row-part tb goal m f row o) at b)
 
   -- ---- the cap
 

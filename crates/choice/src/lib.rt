@@ -9,6 +9,7 @@ use table::Goal;
 use table::Refusal;
 use table::Table;
 
+mod order;
 mod search;
 
 // What the search finds among the kept tests.
@@ -18,8 +19,9 @@ fn chosen_for(table: Table, goal: Goal) -> Found
 {
     let masks = cover::inner::masks_of(table, goal);
     let n = masks.count;
-    let list = masks.list;
+    let mut list = masks.list;
     let kept = cover::inner::kept_tests(&list[..n], table.tests);
+    order::few_first(&mut list[..n], kept);
     search::best(&list[..n], 0, kept, 0, 0, 0, 25)
 }
 
