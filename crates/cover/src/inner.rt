@@ -1,7 +1,7 @@
 // The masks of a goal, and the tests weighed by them, for the crates above.
 ghost use mathlib.Core.Path.{_≡_};
-ghost use Prim.Native.Nat.{_≤_};
-ghost use Rattle.cover.specs.Collect.{setOf};
+ghost use Prim.Native.Nat.{_^_, _≤_, _<_};
+ghost use Rattle.cover.specs.Collect.{withTest, setOf};
 ghost use Rattle.cover.specs.Filled.{Filled};
 ghost use Rattle.cover.specs.Kept.{kept};
 use table::Goal;
@@ -11,6 +11,14 @@ use table::Table;
 pub struct Masks {
     pub count: usize,
     pub list: [u32; 1830],
+}
+
+// The set with test t, where it is to be in.
+pub fn with_test(set: u32, t: usize, inside: bool) -> u32
+    requires { ⌜ (t < 24) × (set < 2 ^ t) ⌝ }
+    ensures { λ r. ⌜ r ≡ withTest set t inside ⌝ }
+{
+    if inside { set + (1 << t) } else { set }
 }
 
 pub fn masks_of(table: Table, goal: Goal) -> Masks
@@ -40,7 +48,7 @@ pub fn kept_tests(masks: &[u32], tests: usize) -> u32
     let mut set: u32 = 0;
     let mut i: usize = 0;
     while i < tests {
-        set = crate::pairs::with_test(set, i, crate::weigh::is_kept(masks, tests, i));
+        set = with_test(set, i, crate::weigh::is_kept(masks, tests, i));
         i += 1;
     }
     set

@@ -1,20 +1,11 @@
 // The masks of pairs of columns.
 ghost use mathlib.Core.Path.{_≡_};
-ghost use Prim.Native.Nat.{_+_, _^_, _≤_, _<_};
+ghost use Prim.Native.Nat.{_+_, _≤_, _<_};
 ghost use lib.ListN.{length};
 ghost use Rattle.folds.specs.Fold.{onto};
 ghost use Rattle.table.specs.Table.{cellAt};
-ghost use Rattle.cover.specs.Collect.{withTest};
 ghost use Rattle.cover.specs.Masks.{differs, maskOf, goalPair, goalMask, maskRow};
 use table::Goal;
-
-// The set with test t, where it is to be in.
-pub fn with_test(set: u32, t: usize, inside: bool) -> u32
-    requires { ⌜ (t < 24) × (set < 2 ^ t) ⌝ }
-    ensures { λ r. ⌜ r ≡ withTest set t inside ⌝ }
-{
-    if inside { set + (1 << t) } else { set }
-}
 
 // Whether test t separates the columns a and b.
 fn differs(cells: &[u8; 1464], a: usize, b: usize, t: usize) -> bool
@@ -32,7 +23,7 @@ fn mask_of(cells: &[u8; 1464], tests: usize, a: usize, b: usize) -> u32
     let mut mask: u32 = 0;
     let mut i: usize = 0;
     while i < tests {
-        mask = with_test(mask, i, differs(cells, a, b, i));
+        mask = crate::inner::with_test(mask, i, differs(cells, a, b, i));
         i += 1;
     }
     mask

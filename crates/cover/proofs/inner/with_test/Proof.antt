@@ -3,8 +3,8 @@ use native.Mathlib.Nat.{add-zero}
 use borrow.Author.Needs.{needs}
 use Rattle.cover.specs.Collect.{withTest}
 use Rattle.cover.proofs.Collect.{one-shl, top-fits}
-use Rattle.cover.proofs.pairs.with_test.Statement.{statement}
-use Rattle.cover.proofs.pairs.with_test.Tie as tie
+use Rattle.cover.proofs.inner.with_test.Statement.{statement}
+use Rattle.cover.proofs.inner.with_test.Tie as tie
 
 cast-result : tie.Need-cast-result
 cast-result c = search needs
