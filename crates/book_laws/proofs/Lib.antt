@@ -1,0 +1,11 @@
+pub mod Cells
+pub mod Grown
+pub mod Rows
+pub mod Stages
+pub mod Body
+pub mod Records
+pub mod Good
+pub mod Along
+pub mod Round
+pub mod Readings
+pub mod Accepted
