@@ -3,8 +3,10 @@ use mathlib.Core.List.{List}
 use mathlib.Core.Path.{_≡_, sym, _∙_}
 use Prim.Native.Nat.{ℕ}
 use denote.Ref.{RefT, now}
+use Rattle.table.specs.declared.Reading.{Reading}
 use Rattle.book.specs.declared.SoFar.{SoFar}
 use Rattle.book.specs.declared.Stepped.{Stepped}
+use Rattle.book.specs.Reading.{readBook}
 use Rattle.book.specs.Sound.{recordAt}
 use Rattle.held_book.specs.declared.Reader.{Reader}
 use Rattle.held_book.specs.Held.{Keeps}
@@ -23,3 +25,6 @@ next-pins reader sofar r₁ r₂ a b = a ∙ sym b
 
 pub step-held-pins : (book : List ℕ) (place : ℕ) (sofar : SoFar) (r₁ r₂ : Stepped) → r₁ ≡ recordAt book place sofar → r₂ ≡ recordAt book place sofar → r₁ ≡ r₂
 step-held-pins book place sofar r₁ r₂ a b = a ∙ sym b
+
+pub read-held-pins : (book : List ℕ) (r₁ r₂ : Reading) → r₁ ≡ readBook book → r₂ ≡ readBook book → r₁ ≡ r₂
+read-held-pins book r₁ r₂ a b = a ∙ sym b
