@@ -72,11 +72,15 @@ module _ (book : List ℕ) (place : ℕ) (sofar : SoFar) where
 
 -- ---- record by record from the start
 
--- at a place that a start of the book has led to, the calls go on as the reading does
+-- at a place that a start of the book has led to, the call is the step
+pub reached-call : {book : List ℕ} {place : ℕ} {sofar : SoFar} → Reached book place sofar → recordAt book place sofar ≡ stepAt book place sofar
+reached-call {book} {place} {sofar} x = call-step book place sofar (reached-sound x) (reached-good x .inside)
+
+-- and the calls go on as the reading does
 calls-same : (n : ℕ) (book : List ℕ) (place : ℕ) (sofar : SoFar) → Reached book place sofar → callsFrom n book place sofar ≡ readFrom n book place sofar
 calls-same zero book place sofar x = refl
 calls-same (suc n) book place sofar x =
-    rw (call-step book place sofar (reached-sound x) (reached-good x .inside))
+    rw (reached-call x)
     (go (steps book place sofar) refl (calls-same n book))
   where
     go : {s : Stepped} → Steps book place sofar s → stepAt book place sofar ≡ s → ((p : ℕ) (q : SoFar) → Reached book p q → callsFrom n book p q ≡ readFrom n book p q)

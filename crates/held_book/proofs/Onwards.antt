@@ -1,36 +1,23 @@
 -- From a book's start, record by record: the reader's step is the cursor's, and what is left to read gives the reading of
 -- the whole book. Assumes nothing.
--- what a start of the book gives passes the test of what has been read so far
-use mathlib.Core.Bool.{true}
 use mathlib.Core.List.{List}
 use mathlib.Core.Path.{_≡_, _∙_}
 use Prim.Native.Nat.{ℕ, _-_, _<_}
 use native.Mathlib.Omega.{arith}
-use borrow.Author.Tests.{le-ltb}
 use lib.ListN.{length}
-use Rattle.table.proofs.Formed.{tested}
 use Rattle.table.specs.declared.Reading.{Reading}
 use Rattle.table.specs.declared.Refusal.{Refusal}
 use Rattle.table.specs.declared.Verdict.the-variants.{Accepted, Refused}
 use Rattle.book.specs.Given.{Reached, begun, read}
 use Rattle.book.specs.Reading.{readingOf, readBook}
-use Rattle.book.specs.Sound.{soundTest, recordAt}
-use Rattle.book.specs.Step.{start, firstOf, stepAt}
+use Rattle.book.specs.Sound.{recordAt}
+use Rattle.book.specs.Step.{start, stepAt}
 use Rattle.book.specs.declared.Record.{Record}
 use Rattle.book.specs.declared.SoFar.{SoFar}
 use Rattle.book.specs.declared.Stepped.{Stepped}
-use Rattle.book_laws.proofs.Good.{Good, reached-good}
-use Rattle.book_laws.proofs.Stages.{fits-tested}
+use Rattle.book_laws.proofs.Calls.{reached-call}
 use Rattle.book.proofs.Loop.{Reads, begins, turn, moved, onwards}
 use Rattle.book.specs.declared.Outcome.the-variants as outcome
-
-reached-sound : {book : List ℕ} {place : ℕ} {sofar : SoFar} → Good book place sofar → soundTest sofar ≡ true
-unfolding soundTest
-reached-sound {book} {place} {sofar} g = rw (tested (sofar .table) (g .formed), fits-tested (sofar .stage) (sofar .table) (g .fits))
-
-reached-record : {book : List ℕ} {place : ℕ} {sofar : SoFar} → Reached book place sofar → recordAt book place sofar ≡ stepAt book place sofar
-unfolding recordAt firstOf
-reached-record {book} {place} {sofar} x = let g = reached-good x in rw (reached-sound g, le-ltb (length book) place (g .inside))
 
 pub record OnTheWay (book : List ℕ) (place : ℕ) (sofar : SoFar) : Type 0 where
   pub reads : Reads book place sofar
@@ -41,7 +28,7 @@ sets-out book sofar e = record { reads = begins book sofar e; reached = rw e beg
 
 module _ (book : List ℕ) (place : ℕ) (sofar : SoFar) (s : Stepped) (w : OnTheWay book place sofar) (e : s ≡ recordAt book place sofar) where
   as-step : s ≡ stepAt book place sofar
-  as-step = e ∙ reached-record (w .reached)
+  as-step = e ∙ reached-call (w .reached)
 
   module _ (x : Record) (o : s .outcome ≡ outcome.Given x) where
     pub goes-on : OnTheWay book (s .place) (s .sofar)
