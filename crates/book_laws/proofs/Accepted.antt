@@ -1,5 +1,4 @@
 -- The reader accepts the books of well-formed tables, and no others. Assumes nothing.
--- ---- an accepted book is its table's
 use mathlib.Core.Bool.{true}
 use mathlib.Core.List.{List, [], _++_}
 use mathlib.Core.Path.{_≡_, refl, sym, ap, _∙_}
@@ -27,6 +26,7 @@ use Rattle.book_laws.proofs.Grown.{Long}
 use Rattle.book_laws.proofs.Readings.{Ends, refused, accepted, ends, accepted-reading}
 use Rattle.book_laws.proofs.Round.{run}
 
+-- ---- an accepted book is its table's
 pub record Gave (book : List ℕ) (tb : Table) : Type 0 where
   pub formed : WellFormed tb
   pub typed : Bytes book → OfType tb

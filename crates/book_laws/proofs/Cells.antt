@@ -1,16 +1,18 @@
 -- Cells after a store, and two lists of cells that agree in every cell. Assumes nothing.
--- a store at a place, read there
 use mathlib.Core.List.{List}
 use mathlib.Core.Logic.{⊎-elim}
 use mathlib.Core.Path.{_≡_, sym, _∙_}
-use Prim.Native.Nat.{ℕ, _/_, _%_, _<_}
+use Prim.Native.Nat.{ℕ, _+_, _*_, _/_, _%_, _≤_, _<_}
 use native.Mathlib.Omega.{arith}
 use lib.ListN.{length, getD, set, replicate, length-replicate, getD-replicate, List·getD-eq-default}
 use lib.Seq.{getD-set-same, getD-set-other, ext-getD, set-out}
+use Rattle.folds.specs.Fold.{listed}
+use Rattle.folds.proofs.Gather.{listed-length, listed-get}
 use Rattle.folds.proofs.Below.{lt-or-ge, eq-or-ne}
 use Rattle.table.specs.Table.{placeOf, cellAt}
 use Rattle.table.proofs.Cells.{place-fits, place-test, place-column}
 
+-- a store at a place, read there
 pub cell-here : (cells : List ℕ) (t c v : ℕ) → length cells ≡ 1464 → t < 24 → c < 61 → cellAt (set cells (placeOf t c) v) t c ≡ v
 unfolding cellAt
 cell-here cells t c v l h k = getD-set-same cells (placeOf t c) v 0 (rw l (place-fits t c h k))
@@ -60,3 +62,30 @@ stored-byte xs i v h b k =
     (λ l. stored (λ x. x < 256) xs i v k l (λ _. h) (λ _. b k))
     (λ l. rw (set-out xs i v l) (b k))
     (lt-or-ge i (length xs))
+
+-- every cell of a list of bytes is one
+pub cell-byte : (cells : List ℕ) → ((i : ℕ) → getD cells i 0 < 256) → (t c : ℕ) → cellAt cells t c < 256
+unfolding cellAt
+cell-byte cells b t c = b (placeOf t c)
+
+-- a list of cells with given outputs
+pub cells-of : (out : ℕ → ℕ → ℕ) → ((t c : ℕ) → out t c < 256) → (cells : List ℕ) × (length cells ≡ 1464) × ((t c : ℕ) → t < 24 → c < 61 → cellAt cells t c ≡ out t c) × ((i : ℕ) → getD cells i 0 < 256)
+unfolding cellAt placeOf
+cells-of out small = (listed f 1464, listed-length f 1464, read, bytes)
+  where
+    f : ℕ → ℕ
+    f k = out (k / 61) (k % 61)
+
+    read : (t c : ℕ) → t < 24 → c < 61 → getD (listed f 1464) (t * 61 + c) 0 ≡ out t c
+    read t c h k =
+        let p : (t * 61 + c) / 61 ≡ t = omega arith in
+        let q : (t * 61 + c) % 61 ≡ c = omega arith in
+        listed-get f 1464 (t * 61 + c) (omega arith) ∙ rw (p, q)
+
+    bytes : (i : ℕ) → getD (listed f 1464) i 0 < 256
+    bytes i = ⊎-elim
+        (λ (l : i < 1464). rw (listed-get f 1464 i l) (small (i / 61) (i % 61)))
+        (λ (l : 1464 ≤ i).
+        let n : length (listed f 1464) ≤ i = rw (listed-length f 1464) l in
+        rw (List·getD-eq-default (listed f 1464) 0 n) (omega arith))
+        (lt-or-ge i 1464)

@@ -1,6 +1,5 @@
 -- What every start of a book keeps: the table is well formed, the stage fits it, and the bytes read are those of the
 -- table's book. Assumes nothing.
--- the bytes of what has been read
 use mathlib.Core.Bool.{false}
 use mathlib.Core.List.{List, [], _++_}
 use mathlib.Core.Logic.{inr, ⊎-elim}
@@ -34,6 +33,7 @@ use Rattle.book_laws.proofs.Stages.{Correct, Fits, no-fault, no-respons
 use Rattle.book_laws.proofs.Body.{testsOf, faultsOf, wrongOf, bodyOf, book-body, body-most, body-test, body-fault, body-response}
 use Rattle.book_laws.proofs.Records.{recordOf, given-bytes, taken-on}
 
+-- the bytes of what has been read
 abbrev pub bytesRead : Stage → Table → List ℕ
 bytesRead Tests tb = bodyOf tb
 bytesRead Faults tb = bodyOf tb
@@ -164,7 +164,7 @@ open-place {book} {place} {sofar} g u =
     let e : length (take place book) ≡ length (bodyOf (sofar .table)) = ap length (g .taken ∙ not-ended (sofar .stage) (sofar .table) u) in
     omega (arith, e, length-take place book, body-most (sofar .table) (w .tests-fit) (w .faults-fit), g .inside)
 
-book-most : (tb : Table) → WellFormed tb → length (bookOf tb) ≤ 5991
+pub book-most : (tb : Table) → WellFormed tb → length (bookOf tb) ≤ 5991
 book-most tb w = rw (book-body tb) (simp length-append (omega (arith, body-most tb (w .tests-fit) (w .faults-fit))))
 
 pub any-place : {book : List ℕ} {place : ℕ} {sofar : SoFar} → Good book place sofar → place ≤ 5991

@@ -1,5 +1,4 @@
 -- Every table that the records build from the empty one is well formed. Assumes nothing.
--- the arrays' lengths
 use mathlib.Core.Bool.{Bool, true, false, not}
 use mathlib.Core.List.{List}
 use mathlib.Core.Logic.{_⊎_, inl, inr, ⊎-elim}
@@ -20,6 +19,7 @@ use Rattle.table.specs.declared.Table.{Table}
 use Rattle.book.specs.Grow.{withTest, filled, withFault, withResponse, differs}
 use Rattle.book_laws.proofs.Cells.{cell-here, cell-there, zero-label, zero-byte, zero-cell, stored, stored-byte}
 
+-- the arrays' lengths
 pub record Long (tb : Table) : Type 0 where
   pub cells : length (tb .cells) ≡ 1464
   pub lines : length (tb .lines) ≡ 60

@@ -9,3 +9,10 @@ pub mod Along
 pub mod Round
 pub mod Readings
 pub mod Accepted
+pub mod Bytes
+pub mod Books
+pub mod Settles
+pub mod Longest
+pub mod Numbers
+pub mod Starts
+pub mod Calls

@@ -1,5 +1,4 @@
 -- How a reading ends: at the last step, which refuses or accepts. Assumes nothing.
--- where a book's start has led, the rest of the reading is that of the book
 use mathlib.Core.Bool.{true}
 use mathlib.Core.List.{List}
 use mathlib.Core.Path.{_≡_, refl, sym}
@@ -20,6 +19,7 @@ use Rattle.book.proofs.Steps.{Gives, test, fault, response, ending, Steps, refu
 use Rattle.book_laws.proofs.Records.{recordOf, given-record}
 use Rattle.book.specs.declared.Outcome.the-variants as outcome
 
+-- where a book's start has led, the rest of the reading is that of the book
 reads-on : {book : List ℕ} {place : ℕ} {sofar : SoFar} → Reached book place sofar → Reads book place sofar
 reads-on {book} begun = begins book start refl
 reads-on {book} (read {place} {sofar} x r e) = onwards book place sofar (stepAt book place sofar) (reads-on x) refl r e

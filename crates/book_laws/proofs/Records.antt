@@ -1,6 +1,5 @@
 -- Where a step gives a record, the book's bytes at that place are the record's, and the next place is behind them.
 -- Assumes nothing.
--- the record at a place of the book
 use mathlib.Core.List.{List, [], _∷_, _++_}
 use mathlib.Core.Path.{_≡_, refl, ap, _∙_}
 use Prim.Native.Nat.{ℕ, suc, _+_, _≤_, _<_}
@@ -14,12 +13,8 @@ use Rattle.book.specs.declared.Record.{Record}
 use Rattle.book.specs.declared.Record.the-variants.{Test, Fault, Response, End}
 use Rattle.book.specs.declared.SoFar.{SoFar}
 use Rattle.book.specs.declared.Stepped.{Stepped}
+use Rattle.book_laws.specs.Records.{BytesAt}
 use Rattle.book.proofs.Steps.{Gives, test, fault, response, ending, Steps, refuses, accepts, gives, steps}
-
-pub record BytesAt (book : List ℕ) (place : ℕ) (r : Record) (next : ℕ) : Type 0 where
-  pub bytes : take (length (recordBytes r)) (drop place book) ≡ recordBytes r
-  pub further : next ≡ place + length (recordBytes r)
-  pub inside : next ≤ length book
 
 -- the bytes from a place on, one by one
 pub cons-at : (book : List ℕ) (place : ℕ) → place < length book → drop place book ≡ getD book place 0 ∷ drop (place + 1) book

@@ -1,5 +1,4 @@
 -- The book of a well-formed table leads to its end record with that table. Assumes nothing.
--- a table is its parts
 use mathlib.Core.Bool.{Bool, true, false}
 use mathlib.Core.List.{List, _++_, append-assoc}
 use mathlib.Core.Logic.{inl, inr, ⊎-elim}
@@ -31,6 +30,7 @@ use Rattle.book_laws.proofs.Good.{reached-good}
 use Rattle.book_laws.proofs.Grown.{Long, filled-here, filled-there, label-new}
 use Rattle.book_laws.proofs.Rows.{always-true, rowsFrom, joined-from, rows-none, rows-take, rows-skip}
 
+-- a table is its parts
 pub table-same : {u t : Table} → u .tests ≡ t .tests → u .faults ≡ t .faults → u .cells ≡ t .cells → u .lines ≡ t .lines → u .stuck ≡ t .stuck → u ≡ t
 table-same {u} {t} a b c d e = whole
   where

@@ -8,7 +8,7 @@ use native.Mathlib.Nat.{add-zero}
 use native.Mathlib.Numerals.{add-one}
 use native.Mathlib.Omega.{arith}
 use lib.ListN.{length, length-append}
-use Rattle.folds.specs.Fold.{pick, joined, always, count}
+use Rattle.folds.specs.Fold.{pick, joined, always}
 use Rattle.folds.proofs.Below.{below-cases}
 
 pub always-true : (i : ℕ) → always i ≡ true
@@ -42,12 +42,6 @@ module _ (p : ℕ → Bool) (g : ℕ → List ℕ) where
       go true = h n
       go false = omega arith
 
--- where all have p, the count is the number of them
-pub count-all : (p : ℕ → Bool) (n : ℕ) → ((i : ℕ) → i < n → p i ≡ true) → count p n ≡ n
-unfolding count
-count-all p zero h = refl
-count-all p (suc n) h = rw (h n (omega arith), count-all p n (λ i l. h i (omega arith))) (omega arith)
-
 -- ---- the rows from k on
 
 module _ (p : ℕ → Bool) (g : ℕ → List ℕ) where
@@ -78,3 +72,9 @@ module _ (p : ℕ → Bool) (g : ℕ → List ℕ) where
   pub rows-skip : (k n : ℕ) → p k ≡ false → rowsFrom k (suc n) ≡ rowsFrom (k + 1) n
   unfolding rowsFrom
   rows-skip k n h = rw h
+
+-- where every row is taken and has k bytes
+pub joined-exact : (p : ℕ → Bool) (g : ℕ → List ℕ) (k n : ℕ) → ((i : ℕ) → i < n → p i ≡ true) → ((i : ℕ) → i < n → length (g i) ≡ k) → length (joined p g n) ≡ n * k
+unfolding joined
+joined-exact p g k zero h l = omega arith
+joined-exact p g k (suc n) h l = rw (h n (omega arith)) (simp length-append (omega (arith, l n (omega arith), joined-exact p g k n (λ i m. h i (omega arith)) (λ i m. l i (omega arith)))))

@@ -1,5 +1,4 @@
 -- The stage that fits a table, in words; the code's test of it holds exactly then. Assumes nothing.
--- the responses from a first one on are the correct outputs
 use mathlib.Core.Bool.{Bool, true, false, not}
 use mathlib.Core.Logic.{⊎-elim}
 use mathlib.Core.Path.{_≡_, refl}
@@ -18,6 +17,7 @@ use Rattle.book.specs.Step.{rankOf, notAfter}
 use Rattle.book.specs.declared.Stage.{Stage}
 use Rattle.book.specs.declared.Stage.the-variants.{Tests, Faults, Responses, Ended}
 
+-- the responses from a first one on are the correct outputs
 abbrev pub Correct : Table → ℕ → Type 0
 Correct tb first = (t f : ℕ) → t < tb .tests → f < tb .faults → first ≤ orderOf f t → outputAt tb t 0 ≡ outputAt tb t (f + 1)
 
