@@ -27,6 +27,7 @@ use Rattle.book_laws.proofs.Readings.{Ends, refused, accepted, ends, ac
 use Rattle.book_laws.proofs.Round.{run}
 
 -- ---- an accepted book is its table's
+-- what an accepted book gave; its table is of the type where the book is made of bytes
 pub record Gave (book : List ℕ) (tb : Table) : Type 0 where
   pub formed : WellFormed tb
   pub typed : Bytes book → OfType tb

@@ -1,4 +1,5 @@
--- A step gives a refusal exactly when its own condition holds, and none before it in the list. Assumes nothing.
+-- A step gives a refusal exactly when its own condition holds, and none before it in the list. The sentences are
+-- document 01's. Assumes nothing.
 use mathlib.Core.Bool.{Bool, true, false}
 use mathlib.Core.List.{List, [], _∷_}
 use mathlib.Core.Logic.{inl, inr}
@@ -97,7 +98,7 @@ module _ (book : List ℕ) (place : ℕ) (sofar : SoFar) where
   unfolding ruleAt
   rule-right = way Right (either (leb (length book) place) (eqb (rankOf (sofar .stage)) 3)) _ _ (λ _. edge-right) (λ _. kind-right (getD book place 0))
 
-  -- ---- the theorem, in both directions
+  -- ---- "Given exactly when"
 
   pub step-refuses : (why : Refusal) → Refuses why (ruleAt book place sofar .checks) → stepAt book place sofar ≡ refusedAt why place
   unfolding stepAt
@@ -125,7 +126,7 @@ module _ (book : List ℕ) (place : ℕ) (sofar : SoFar) where
       go (k ∷ ks) n (inl (h, e)) = rw (← e) (n .0)
       go (k ∷ ks) n (inr (h, r)) = go ks (n .1) r
 
--- ---- a whole book
+-- ---- a whole book: reading got to the place, and there the refusal is given
 
 pub reading-stops : (book : List ℕ) (why : Refusal) → readBook book .verdict ≡ verdict.Refused why → StopsAt book why (readBook book .place)
 reading-stops book why h = go (ends book) h

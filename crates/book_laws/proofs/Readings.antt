@@ -14,7 +14,7 @@ use Rattle.book.specs.Reading.{readingOf, readBook}
 use Rattle.book.specs.Step.{start, rankOf, refusedAt, acceptedAt, testRule, faultRule, responseRule, endRule, stepAt}
 use Rattle.book.specs.declared.SoFar.{SoFar}
 use Rattle.book.specs.declared.Stepped.{Stepped}
-use Rattle.book.proofs.Loop.{Reads, begins, turn, onwards}
+use Rattle.book.proofs.Loop.{Reads, begins, accepts-all, refuses-all, onwards}
 use Rattle.book.proofs.Steps.{Gives, test, fault, response, ending, Steps, refuses, accepts, gives, steps}
 use Rattle.book_laws.proofs.Records.{recordOf, given-record}
 use Rattle.book.specs.declared.Outcome.the-variants as outcome
@@ -26,10 +26,10 @@ reads-on {book} (read {place} {sofar} x r e) = onwards book place sofar (stepAt 
 
 module _ {book : List ℕ} {place : ℕ} {sofar : SoFar} (x : Reached book place sofar) where
   pub refused-reading : (why : Refusal) → stepAt book place sofar ≡ refusedAt why place → readBook book ≡ readingOf (Refused why) (refusedAt why place)
-  refused-reading why e = sym (turn book place sofar (refusedAt why place) (reads-on x) (sym e))
+  refused-reading why e = sym (refuses-all book place sofar (refusedAt why place) (reads-on x) (sym e) why refl)
 
   pub accepted-reading : stepAt book place sofar ≡ acceptedAt place sofar → readBook book ≡ readingOf Accepted (acceptedAt place sofar)
-  accepted-reading e = sym (turn book place sofar (acceptedAt place sofar) (reads-on x) (sym e))
+  accepted-reading e = sym (accepts-all book place sofar (acceptedAt place sofar) (reads-on x) (sym e) refl)
 
 -- the last step of a reading
 pub data Ends (book : List ℕ) : Reading → Type 0 where

@@ -70,7 +70,7 @@ given-record (ending h k) = refl
 pub taken-on : (book : List ℕ) (place : ℕ) (r : Record) (next : ℕ) → BytesAt book place r next → take next book ≡ take place book ++ recordBytes r
 taken-on book place r next b = rw (b .further) (take-add place (length (recordBytes r)) book ∙ ap (λ (x : List ℕ). take place book ++ x) (b .bytes))
 
--- the theorem
+-- the theorem, of a step
 pub record-there : (book : List ℕ) (place : ℕ) (sofar : SoFar) (r : Record) → stepAt book place sofar .outcome ≡ Given r → BytesAt book place r (stepAt book place sofar .place)
 record-there book place sofar r e = go (steps book place sofar) e
   where
