@@ -29,9 +29,7 @@ recordOf {book} {place} (ending h k) = End (getD book (place + 1) 0) (getD book 
 
 module _ (book : List ℕ) (place : ℕ) where
   at₂ : place + 2 ≤ length book → take 2 (drop place book) ≡ getD book place 0 ∷ getD book (place + 1) 0 ∷ []
-  at₂ l =
-      let q : place + 1 + 1 ≡ place + 2 = omega arith in
-      rw (cons-at book place (omega arith), cons-at book (place + 1) (omega arith))
+  at₂ l = rw (cons-at book place (omega arith), cons-at book (place + 1) (omega arith))
 
   at₃ : place + 3 ≤ length book → take 3 (drop place book) ≡ getD book place 0 ∷ getD book (place + 1) 0 ∷ getD book (place + 2) 0 ∷ []
   at₃ l =
