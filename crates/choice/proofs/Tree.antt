@@ -1,5 +1,4 @@
 -- What holds at a node of the search, from what holds at the nodes below it, for any weight of each test. Assumes nothing.
--- test t is taken
 use mathlib.Core.Bool.{true}
 use mathlib.Core.List.{List}
 use mathlib.Core.Logic.{inl, inr, ⊎-elim}
@@ -24,6 +23,7 @@ use Rattle.choice.specs.declared.search.Found.the-variants.{Set, Nothing
 use Rattle.choice.specs.Search.{FirstUnhit, Node, Open, NeedsMore, Best, limitAfter, orElse}
 use Rattle.choice.proofs.Weights.{agreed-weight, agreed-same}
 
+-- test t is taken
 pub taken : (s t : ℕ) → withTest s t true ≡ s + 2 ^ t
 unfolding withTest
 taken s t = refl

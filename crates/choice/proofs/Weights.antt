@@ -1,5 +1,4 @@
 -- Weights of sets that agree or share nothing, for any positive weight of each test. Assumes nothing.
--- ---- sums, number by number
 use mathlib.Core.Logic.{⊎-elim}
 use mathlib.Core.Path.{_≡_, sym, ap, _∙_}
 use Prim.Native.Nat.{ℕ, zero, suc, _+_, _*_, _%_, _^_, _≤_, _<_}
@@ -13,6 +12,8 @@ use Rattle.folds.proofs.Total.{total-more, total-same, total-grows}
 use Rattle.sets.specs.Sets.{bit, has, share, weight, size}
 use Rattle.sets.proofs.Bits.{bit-cases, bit-low, bit-high, bits-equal}
 use Rattle.sets.proofs.Weight.{share-in, share-out, weight-below, size-counts}
+
+-- ---- sums, number by number
 
 total-two : (f g h : ℕ → ℕ) (n : ℕ) → ((i : ℕ) → f i + g i ≤ h i) → total f n + total g n ≤ total h n
 unfolding total

@@ -1,6 +1,5 @@
 -- Versions that the promise of `choose` excludes, each by what it answers on a small table. The sentences are document 01's.
 -- Assumes nothing.
--- ---- small tables: a row for each test, the correct output first, then that of each fault
 use mathlib.Core.Bool.{Bool, true}
 use mathlib.Core.List.{List, [], _∷_}
 use mathlib.Core.Path.{_≡_, refl, ap}
@@ -28,6 +27,8 @@ use Rattle.choice.specs.Answer.{ChoiceIs}
 use Rattle.choice.proofs.Pins.{apart, choose-pins}
 use Rattle.choice_laws.proofs.Small.{hitsAll, firstIn, precedes, noBetter, isChoice, choice-of}
 use Rattle.choice.proofs.Weights.{size-most}
+
+-- ---- small tables: a row for each test, the correct output first, then that of each fault
 
 rowFrom : ℕ → ℕ → List ℕ → List ℕ → List ℕ
 rowFrom t c [] cells = cells

@@ -1,5 +1,4 @@
 -- Laws of `setOf` and `some`, and the facts of the loops that make them. Assumes nothing.
--- ---- one test more at the top
 use mathlib.Core.Bool.{Bool, true, false}
 use mathlib.Core.Logic.{⊎-elim}
 use mathlib.Core.Path.{_≡_, refl, sym, ap, _∙_}
@@ -14,6 +13,8 @@ use Rattle.folds.proofs.Below.{below-cases, lt-or-ge}
 use Rattle.sets.specs.Sets.{bit}
 use Rattle.sets.proofs.Bits.{bit-high, top-lt, top-bit, top-below}
 use Rattle.cover.specs.Collect.{withTest, setOf, some}
+
+-- ---- one test more at the top
 
 module _ (s t : ℕ) (h : s < 2 ^ t) where
   pub with-lt : (b : Bool) → withTest s t b < 2 ^ suc t
