@@ -33,7 +33,7 @@ before-at : (s s' t : ℕ) → s % 2 ^ t ≡ s' % 2 ^ t → bit s t ≡ 1 → bi
 before-at s s' t e a b = (t, a, b, λ j l. sym (bit-low s t j l) ∙ ap (λ (x : ℕ). bit x j) e ∙ bit-low s' t j l)
 
 module _ (w : ℕ → ℕ) (masks : List ℕ) (keep t chosen : ℕ) where
-  pub open-limit : (limit limit' s : ℕ) → Open w masks keep t chosen limit s → weight w s < limit' → Open w masks keep t chosen limit' s
+  open-limit : (limit limit' s : ℕ) → Open w masks keep t chosen limit s → weight w s < limit' → Open w masks keep t chosen limit' s
   open-limit limit limit' s o l = record { below = o .below; agrees = o .agrees; keeps = o .keeps; hits = o .hits; light = l }
 
   open-in-down : (limit s : ℕ) → bit s t ≡ 1 → Open w masks keep t chosen limit s → Open w masks keep (t + 1) (chosen + 2 ^ t) limit s

@@ -36,7 +36,7 @@ module _ (w : ℕ → ℕ) where
   -- ---- a set that agrees with what is chosen below t
 
   module _ (t chosen s : ℕ) (depth : t ≤ 24) (decided : chosen < 2 ^ t) (agrees : s % 2 ^ t ≡ chosen) where
-    pub agreed-bit : (i : ℕ) → i < t → bit chosen i ≡ bit s i
+    agreed-bit : (i : ℕ) → i < t → bit chosen i ≡ bit s i
     agreed-bit i l = ap (λ (x : ℕ). bit x i) (sym agrees) ∙ bit-low s t i l
 
     agreed-part : weight w chosen ≡ total (share w s) t

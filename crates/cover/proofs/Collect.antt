@@ -17,7 +17,7 @@ use Rattle.cover.specs.Collect.{withTest, setOf, some}
 -- ---- one test more at the top
 
 module _ (s t : ℕ) (h : s < 2 ^ t) where
-  pub with-lt : (b : Bool) → withTest s t b < 2 ^ suc t
+  with-lt : (b : Bool) → withTest s t b < 2 ^ suc t
   unfolding withTest
   with-lt true = top-lt s t h
   with-lt false = omega (arith, pow-suc 2 t)

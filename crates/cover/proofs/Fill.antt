@@ -19,7 +19,7 @@ use Rattle.cover.proofs.Masks.{row-few}
 
 -- a list written to what is behind `at`, where `at` is the end of what was written before: the buffer as a call
 -- `f(&mut b[at..])` leaves it
-pub onto-behind : (ys xs d b b′ row : List ℕ) (at m : ℕ) → length b ≡ m → b ≡ onto ys d → at ≡ length ys
+onto-behind : (ys xs d b b′ row : List ℕ) (at m : ℕ) → length b ≡ m → b ≡ onto ys d → at ≡ length ys
     → row ≡ onto xs (take (m - at) (drop at b)) → b′ ≡ take at b ++ (row ++ drop (m - at) (drop at b)) → b′ ≡ onto (ys ++ xs) d
 unfolding onto
 onto-behind ys xs d b b′ row at m l e k r h =
