@@ -1,5 +1,4 @@
 -- The kept tests by the masks are the paper's, and so are the lone ones. Assumes nothing.
--- ---- what the tests over masks say
 use mathlib.Core.Bool.{Bool, true, false, not}
 use mathlib.Core.List.{List}
 use mathlib.Core.Logic.{inl, inr, ⊎-elim}
@@ -30,6 +29,8 @@ use Rattle.cover.specs.Answer.{keptSet, loneSet, Exactly, AsideTest}
 use Rattle.cover.proofs.Collect.{set-below, set-has, set-in, some-of, some-at}
 use Rattle.cover.proofs.Shared.{bit-and, alone-in, alone-out}
 use Rattle.cover.proofs.Goals.{AllOf, pairMask, mask-test, mask-separates, mask-in, masks-all, masks-at}
+
+-- ---- what the tests over masks say
 
 module _ (masks : List ℕ) (t : ℕ) where
   used-not : used masks t ≡ true → AllOf (λ m. bit m t ≡ 0) masks → ⊥

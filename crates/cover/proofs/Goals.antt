@@ -1,5 +1,4 @@
 -- What holds of every mask of a goal, and what holds of every goal pair that counts. Assumes nothing.
--- ---- every entry of a list has Q
 use mathlib.Core.Bool.{Bool, true, false}
 use mathlib.Core.List.{List, [], _∷_, _++_}
 use mathlib.Core.Logic.{⊎-elim}
@@ -23,6 +22,8 @@ use Rattle.terms.specs.Columns.{agrees}
 use Rattle.terms.specs.Terms.{TestOf, Separates, GoalPair, Counts, Reaches}
 use Rattle.cover.specs.Masks.{Shares, Hits, goalPair, differs, maskOf, goalMask, counts, maskRow, masksOf}
 use Rattle.cover.proofs.Collect.{set-below, set-has, set-in}
+
+-- ---- every entry of a list has Q
 
 abbrev pub AllOf : (ℕ → Type 0) → List ℕ → Type 0
 AllOf Q xs = (k : ℕ) → k < length xs → Q (getD xs k 0)
