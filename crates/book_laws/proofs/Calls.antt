@@ -31,7 +31,7 @@ use Rattle.book_laws.proofs.Records.{recordOf, given-record, record-the
 
 module _ (book : List ℕ) (place : ℕ) (sofar : SoFar) where
   -- where the test holds and the place is in the book, the call is the step
-  pub call-step : soundTest sofar ≡ true → place ≤ length book → recordAt book place sofar ≡ stepAt book place sofar
+  call-step : soundTest sofar ≡ true → place ≤ length book → recordAt book place sofar ≡ stepAt book place sofar
   unfolding recordAt callRule stepAt firstOf
   call-step h l = rw (h, le-ltb (length book) place l)
 

@@ -10,9 +10,7 @@ use Rattle.book.specs.declared.Record.{Record}
 use Rattle.book.specs.declared.SoFar.{SoFar}
 use Rattle.book.specs.declared.Stepped.{Stepped}
 use Rattle.book.proofs.Loop.{reading}
-use Rattle.book_laws.proofs.Calls.{call-step}
-use Rattle.book_laws.proofs.Good.{reached-good}
-use Rattle.book_laws.proofs.Starts.{reached-sound}
+use Rattle.book_laws.proofs.Calls.{reached-call}
 
 pub sets-out : (book : List ℕ) (sofar : SoFar) → sofar ≡ start → Reached book 0 sofar
 sets-out book sofar e = rw e begun
@@ -20,7 +18,7 @@ sets-out book sofar e = rw e begun
 module _ (book : List ℕ) (place : ℕ) (sofar : SoFar) (s : Stepped) (w : Reached book place sofar) (e : s ≡ recordAt book place sofar) where
   -- what has been read so far passes the test
   pub as-step : s ≡ stepAt book place sofar
-  as-step = e ∙ call-step book place sofar (reached-sound w) (reached-good w .inside)
+  as-step = e ∙ reached-call w
 
   pub reaches : (x : Record) → s .outcome ≡ Given x → Reached book (s .place) (s .sofar)
   reaches x o = rw as-step (read w x (rw as-step at o))
