@@ -1,5 +1,4 @@
 -- The loop over the steps: what is left to read gives the reading of the whole book. Assumes nothing.
--- reading on from a place, with steps enough, gives the reading of the book
 use mathlib.Core.List.{List}
 use mathlib.Core.Path.{_≡_, refl}
 use Prim.Native.Nat.{ℕ, zero, suc, _+_, _≤_}
@@ -15,6 +14,7 @@ use Rattle.book.specs.Step.{start, CountsFit, stepAt}
 use Rattle.book.specs.Reading.{after, readFrom, readBook}
 use Rattle.book.proofs.Steps.{steps, Goes, goes}
 
+-- reading on from a place, with steps enough, gives the reading of the book
 pub record Reads (book : List ℕ) (place : ℕ) (sofar : SoFar) : Type 0 where
   pub fuel : ℕ
   pub enough : length book ≤ place + fuel

@@ -1,6 +1,5 @@
 -- What a step does: it refuses, accepts after the end record, or gives a record. Every theorem on steps goes by these cases.
 -- Assumes nothing.
--- no check of the list holds
 use mathlib.Core.Bool.{Bool, true, false}
 use mathlib.Core.List.{List, [], _∷_}
 use mathlib.Core.Path.{_≡_, refl}
@@ -18,6 +17,7 @@ use Rattle.book.specs.declared.SoFar.{SoFar}
 use Rattle.book.specs.declared.Stepped.{Stepped}
 use Rattle.book.specs.Step.{Check, Rule, CountsFit, rankOf, refusedAt, acceptedAt, firstOf, judged, testRule, faultRule, responseRule, endRule, unknownRule, edgeRule, kindRule, ruleAt, stepAt}
 
+-- no check of the list holds
 abbrev pub AllPast : List Check → Type 0
 AllPast [] = Unit {0}
 AllPast (k ∷ ks) = (k .holds ≡ false) × AllPast ks

@@ -1,7 +1,7 @@
 -- The test of what has been read so far, as the code makes it, and the step that makes it first.
 -- Assumes nothing.
 use mathlib.Core.Bool.{Bool, true, not}
-use mathlib.Core.List.{List, [], _∷_}
+use mathlib.Core.List.{List, _∷_}
 use Prim.Native.Nat.{ℕ, _+_, _*_}
 use lib.Dec.{ltb, eqb}
 use lib.ListN.{length}
@@ -14,7 +14,7 @@ use Rattle.book.specs.declared.SoFar.{SoFar}
 use Rattle.book.specs.declared.Stage.{Stage}
 use Rattle.book.specs.declared.Stage.the-variants.{Tests, Faults, Responses, Ended}
 use Rattle.book.specs.declared.Stepped.{Stepped}
-use Rattle.book.specs.Step.{check, rule, judged, stepAt}
+use Rattle.book.specs.Step.{Rule, check, rule, judged, ruleAt}
 
 -- where the response of fault f to test t stands among all
 abbrev pub orderOf : ℕ → ℕ → ℕ
@@ -45,10 +45,12 @@ soundTest sofar = both (wellFormed (sofar .table)) (stageFits (sofar .stage) (so
 
 -- "A reading so far that no start of any book gives, or a place past the lent book's end, gives 20 with that place and the
 -- empty table, before any other number."
+unfoldable pub callRule : List ℕ → ℕ → SoFar → Rule
+callRule book place sofar = rule
+    (check NotWellFormed (not (soundTest sofar))
+    ∷ check NotWellFormed (ltb (length book) place)
+    ∷ ruleAt book place sofar .checks)
+    (ruleAt book place sofar .gives)
+
 unfoldable pub recordAt : List ℕ → ℕ → SoFar → Stepped
-recordAt book place sofar =
-    judged
-    (rule
-    (check NotWellFormed (not (soundTest sofar)) ∷ check NotWellFormed (ltb (length book) place) ∷ [])
-    (stepAt book place sofar))
-    place
+recordAt book place sofar = judged (callRule book place sofar) place

@@ -1,5 +1,5 @@
--- What the record at a place gives, or why it is refused: the refusals of each kind stand as a list, in the order of
--- document 01's. The sentences are document 01's.
+-- What the record at a place gives, or why it is refused: the refusals of each kind stand as a list, in document 01's order.
+-- The sentences are document 01's.
 -- Assumes nothing.
 use mathlib.Core.Bool.{Bool, true, false, not}
 use mathlib.Core.List.{List, [], _∷_}
@@ -97,7 +97,7 @@ module _ (book : List ℕ) (place : ℕ) (sofar : SoFar) where
   abbrev byte : ℕ → ℕ
   byte i = getD book (place + i) 0
 
-  -- the book stops within n bytes
+  -- "the body is cut short": the book has no n bytes from the place on
   abbrev cut : ℕ → Bool
   cut n = ltb (length book) (place + n)
 
@@ -105,7 +105,9 @@ module _ (book : List ℕ) (place : ℕ) (sofar : SoFar) where
   unfoldable pub testRule : Rule
   testRule = rule
       (check BodyCut (cut 2)
+      -- "a test after a fault or response"
       ∷ check OutOfPlace (ltb 0 rank)
+      -- "a 25th test"
       ∷ check TooMany (leb 24 (tb .tests))
       ∷ [])
       (givenAt (Test (byte 1)) (place + 2) (withTest tb (byte 1)) Tests)
@@ -114,9 +116,13 @@ module _ (book : List ℕ) (place : ℕ) (sofar : SoFar) where
   unfoldable pub faultRule : Rule
   faultRule = rule
       (check BodyCut (cut 3)
+      -- "a fault after a response"
       ∷ check OutOfPlace (ltb 1 rank)
+      -- "a 61st fault"
       ∷ check TooMany (leb 60 (tb .faults))
+      -- "stuck value above 1"
       ∷ check StuckValue (ltb 1 (byte 2))
+      -- "same line and value as an earlier fault"
       ∷ check SameLabel (not (every (differs (tb .lines) (tb .stuck) (byte 1) (byte 2)) (tb .faults)))
       ∷ [])
       (givenAt (Fault (byte 1) (byte 2)) (place + 3) (withFault tb (byte 1) (byte 2)) Faults)
@@ -125,9 +131,12 @@ module _ (book : List ℕ) (place : ℕ) (sofar : SoFar) where
   unfoldable pub responseRule : Rule
   responseRule = rule
       (check BodyCut (cut 4)
+      -- "a response names a test or fault that the book lacks"
       ∷ check NotInBook (leb (tb .tests) (byte 1))
       ∷ check NotInBook (leb (tb .faults) (byte 2))
+      -- "a response is not after the one before it"
       ∷ check NotAfter (notAfter (sofar .stage) (byte 2) (byte 1))
+      -- "a response repeats the correct output"
       ∷ check RepeatsCorrect (eqb (outputAt tb (byte 1) 0) (byte 3))
       ∷ [])
       (givenAt (Response (byte 1) (byte 2) (byte 3)) (place + 4) (withResponse tb (byte 1) (byte 2) (byte 3)) (Responses (byte 2) (byte 1)))
@@ -136,6 +145,7 @@ module _ (book : List ℕ) (place : ℕ) (sofar : SoFar) where
   unfoldable pub endRule : Rule
   endRule = rule
       (check BodyCut (cut 3)
+      -- "the end's counts are not those read"
       ∷ check WrongCounts (not (eqb (byte 1) (tb .tests)))
       ∷ check WrongCounts (not (eqb (byte 2) (tb .faults)))
       ∷ [])
@@ -145,14 +155,17 @@ module _ (book : List ℕ) (place : ℕ) (sofar : SoFar) where
   unfoldable pub unknownRule : Rule
   unknownRule = rule (check UnknownKind true ∷ []) (refusedAt UnknownKind place)
 
-  -- "the book stops at a record's edge with no end record", "a byte follows the end"
+  -- at the book's end, or past the end record
   unfoldable pub edgeRule : Rule
   edgeRule = rule
+      -- "the book stops at a record's edge with no end record"
       (check NoEnd (not (eqb rank 3))
+      -- "a byte follows the end"
       ∷ check BytesFollow (ltb place (length book))
       ∷ [])
       (acceptedAt place sofar)
 
+  -- by the kind byte
   unfoldable pub kindRule : ℕ → Rule
   kindRule kind =
       pick (eqb kind 0x54) testRule
@@ -164,5 +177,6 @@ module _ (book : List ℕ) (place : ℕ) (sofar : SoFar) where
   unfoldable pub ruleAt : Rule
   ruleAt = pick (either (leb (length book) place) (eqb rank 3)) edgeRule (kindRule (getD book place 0))
 
+  -- the step of the cursor
   unfoldable pub stepAt : Stepped
   stepAt = judged ruleAt place

@@ -22,11 +22,11 @@ pub fn refuse(why: Refusal, place: usize) -> Stepped
     }
 }
 
-fn give(read: Record, next: usize, table: Table, stage: Stage) -> Stepped
-    ensures { λ r. ⌜ r ≡ givenAt read next table stage ⌝ }
+fn give(given: Record, next: usize, table: Table, stage: Stage) -> Stepped
+    ensures { λ r. ⌜ r ≡ givenAt given next table stage ⌝ }
 {
     Stepped {
-        outcome: Outcome::Given(read),
+        outcome: Outcome::Given(given),
         place: next,
         sofar: SoFar { table, stage },
     }

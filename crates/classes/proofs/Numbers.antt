@@ -12,7 +12,7 @@ use Rattle.terms.specs.Columns.{lowest, lowestOf, classNumber}
 use Rattle.terms_laws.proofs.Classes.{is-lowest, not-lowest, lowest-alike, class-same, class-of-lowest}
 use Rattle.classes.specs.Classes.{unnumbered, numbersOf}
 
-pub length-unnumbered : length unnumbered ≡ 61
+length-unnumbered : length unnumbered ≡ 61
 unfolding unnumbered
 length-unnumbered = refl
 

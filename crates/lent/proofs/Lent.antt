@@ -4,8 +4,10 @@ use mathlib.Core.List.{List}
 use mathlib.Core.Path.{_≡_, refl, sym, ap, _∙_}
 use Prim.Native.Nat.{ℕ, _+_, _^_, _≤_, _<_}
 use native.Mathlib.Nat.{lt-of-le-of-lt}
+use native.Mathlib.Omega.{arith}
 use borrow.Author.Tests.{le-leb, lt-leb, not-true, not-false}
-use lib.ListN.{length}
+use lib.ListN.{length, getD, take, drop, length-drop, List·getD-append}
+use lib.Seq.{take-append-le, drop-append-le}
 use mir.Syntax.{w64}
 use mir.Val.{Fits}
 use Rattle.folds.specs.Fold.{onto}
@@ -50,7 +52,20 @@ module _ (tb : Table) (s : ℕ) (answer d : List ℕ) (r : Bool) (t : Tested tb 
       unfolding setNumber roomNumber
       writes-0 w d′ h = record { number = rw (accepted tb r t q, ← e₂, not-false r₂ q₂, ← e, le-leb n (length d) w); count = e; buffer = h }
 
-pub ruleset writes = (writes-20, writes-21, writes-24, writes-0)
+-- ---- what an accepted call leaves
+
+module _ (earlier : ℕ) (answer d : List ℕ) (n : ℕ) (e : List ℕ) (a : WritesOnto earlier answer d (Bytes n) e) where
+  -- each part of the answer stands in the buffer,
+  pub writes-part : (m k : ℕ) → m + k ≤ length answer → take k (drop m e) ≡ take k (drop m answer)
+  unfolding onto
+  writes-part m k h =
+      let l : k ≤ length (drop m answer) = simp length-drop (omega arith) in
+      rw (a .buffer, drop-append-le m answer _ (omega arith), take-append-le k (drop m answer) _ l)
+
+  -- and each byte
+  pub writes-byte : (i : ℕ) → i < length answer → getD e i 0 ≡ getD answer i 0
+  unfolding onto
+  writes-byte i h = rw (a .buffer) (List·getD-append answer _ 0 i h)
 
 -- the end of a part that lies in the buffer fits
 pub part-fits : (n at : ℕ) (d b : List ℕ) → at + n ≤ length b → length b ≡ length d → length d < 2 ^ 64 → Fits w64 (at + n)

@@ -1,7 +1,7 @@
 -- Pieces of text as bytes. Assumes nothing.
 use mathlib.Core.List.{List, [], _∷_, _++_}
 use mathlib.Core.Path.{_≡_}
-use Prim.Native.Nat.{ℕ, zero, suc, _+_, _/_, _%_}
+use Prim.Native.Nat.{ℕ, zero, suc, _+_, _/_, _%_, max, min}
 use lib.Dec.{ltb}
 use lib.ListN.{length}
 use lib.Seq.{sets}
@@ -16,7 +16,7 @@ digits (suc k) n = pick (ltb n 10) ((48 + n) ∷ []) (digits k (n / 10) ++ ((48 
 unfoldable pub decimalOf : ℕ → List ℕ
 decimalOf n = digits (suc n) n
 
--- `piece` is written from place `at` on, as far as the buffer goes; r is the place behind it
+-- `piece` is written from place `at` on, as far as the buffer goes, and r is the place behind what was written
 pub record Writes (at : ℕ) (piece entry : List ℕ) (r : ℕ) (exit : List ℕ) : Type 0 where
-  pub place : r ≡ at + length piece
+  pub place : r ≡ max at (min (at + length piece) (length entry))
   pub bytes : exit ≡ sets entry at piece

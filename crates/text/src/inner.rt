@@ -1,21 +1,18 @@
-// Each call writes a piece at a place and gives the next place. What lies past the buffer's end is only counted.
-ghost use Prim.Native.Nat.{_+_, _<_, _≤_};
+// Each call writes a piece at a place and gives the place behind it. What lies past the buffer's end is left out.
 ghost use mathlib.Core.List.{[], _∷_};
-ghost use lib.ListN.{length};
 ghost use Rattle.text.specs.Text.{Writes, decimalOf};
 
 pub fn put(buf: &mut [u8], at: usize, byte: u8) -> usize
-    requires { ⌜ at < 65536 ⌝ }
     ensures { λ r. ⌜ Writes at (byte ∷ []) (now (buf .entry)) r (now (buf .exit)) ⌝ }
 {
-    if at < buf.len() {
-        buf[at] = byte;
+    if buf.len() <= at {
+        return at;
     }
+    buf[at] = byte;
     at + 1
 }
 
 pub fn word(buf: &mut [u8], at: usize, bytes: &[u8]) -> usize
-    requires { ⌜ at + length (now bytes) ≤ 65536 ⌝ }
     ensures { λ r. ⌜ Writes at (now (bytes .entry)) (now (buf .entry)) r (now (buf .exit)) ⌝ }
 {
     let mut next = at;
@@ -28,7 +25,6 @@ pub fn word(buf: &mut [u8], at: usize, bytes: &[u8]) -> usize
 }
 
 pub fn decimal(buf: &mut [u8], at: usize, n: usize) -> usize
-    requires { ⌜ at + length (decimalOf n) ≤ 65536 ⌝ }
     ensures { λ r. ⌜ Writes at (decimalOf n) (now (buf .entry)) r (now (buf .exit)) ⌝ }
 {
     if n < 10 {

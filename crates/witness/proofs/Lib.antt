@@ -1,2 +1,4 @@
 pub mod Rows
 pub mod Size
+pub mod Meaning
+pub mod Pins

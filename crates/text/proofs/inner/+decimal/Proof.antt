@@ -5,7 +5,7 @@ use native.Mathlib.Omega.{arith}
 use borrow.Author.Needs.{needs}
 use borrow.Fn.Kinds.{In}
 use borrow.Fn.PlainCycle.{Measures, is, falls, and}
-use Rattle.text.proofs.Writes.{decimals, front-room}
+use Rattle.text.proofs.Writes.{decimals}
 use Rattle.text.proofs.inner.+decimal.{statement}
 use Rattle.text.proofs.inner.+decimal.Tie.{close}
 use Rattle.text.proofs.inner.decimal.Reads as decimal
@@ -32,7 +32,7 @@ decimal-cast-put : (t : ℕ) → decimal-lts.Need-cast-put (callees t) (decimal-
 decimal-cast-put t c = search needs
 
 decimal-put-requires : (t : ℕ) → decimal-lts.Need-put-requires (callees t) (decimal-at t) decimal.Post
-decimal-put-requires t c κs = search decimals
+decimal-put-requires t c κs = search needs
 
 decimal-same-length : (t : ℕ) → decimal-lts.Need-same-length (callees t) (decimal-at t) decimal.Post
 decimal-same-length t c = search decimals
@@ -41,7 +41,7 @@ decimal-returns : (t : ℕ) → decimal-lts.Need-returns (callees t) (decimal-at
 decimal-returns t c = search decimals
 
 decimal-decimal-requires : (t : ℕ) → decimal-lts.Need-decimal-requires (callees t) (decimal-at t) decimal.Post
-decimal-decimal-requires t c κs = (omega arith, search front-room)
+decimal-decimal-requires t c κs = (omega arith, tt)
 
 decimal-add-put-2 : (t : ℕ) → decimal-lts.Need-add-put-2 (callees t) (decimal-at t) decimal.Post
 decimal-add-put-2 t c = search needs
@@ -50,7 +50,7 @@ decimal-cast-put-2 : (t : ℕ) → decimal-lts.Need-cast-put-2 (callees t) (deci
 decimal-cast-put-2 t c = search needs
 
 decimal-put-requires-2 : (t : ℕ) → decimal-lts.Need-put-requires-2 (callees t) (decimal-at t) decimal.Post
-decimal-put-requires-2 t c κs = search decimals
+decimal-put-requires-2 t c κs = search needs
 
 decimal-same-length-2 : (t : ℕ) → decimal-lts.Need-same-length-2 (callees t) (decimal-at t) decimal.Post
 decimal-same-length-2 t c = c .before .before .put2 .kept .0 ∙ c .before .before .before .before .before .before .decimal .kept .0

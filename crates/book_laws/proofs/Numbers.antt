@@ -1,0 +1,140 @@
+-- A step gives a refusal exactly when its own condition holds, and none before it in the list. Assumes nothing.
+use mathlib.Core.Bool.{Bool, true, false}
+use mathlib.Core.List.{List, [], _∷_}
+use mathlib.Core.Logic.{inl, inr}
+use mathlib.Core.Path.{_≡_, refl}
+use Prim.Native.Nat.{ℕ, _≤_}
+use native.Mathlib.Omega.{arith}
+use lib.Dec.{eqb, leb}
+use lib.ListN.{length, getD}
+use Rattle.folds.specs.Fold.{pick, either}
+use Rattle.folds.proofs.Bools.{clash}
+use Rattle.table.specs.Answers.{numberOf}
+use Rattle.table.specs.declared.Reading.{Reading}
+use Rattle.table.specs.declared.Refusal.{Refusal}
+use Rattle.book.specs.Reading.{readBook}
+use Rattle.book.specs.Sound.{callRule, recordAt}
+use Rattle.table.specs.Table.{emptyTable}
+use Rattle.book.specs.Step.{Check, Rule, rankOf, refusedAt, firstOf, testRule, faultRule, responseRule, endRule, unknownRule, edgeRule, kindRule, ruleAt, stepAt}
+use Rattle.book.specs.declared.Outcome.the-variants.{Given, Refused}
+use Rattle.book.specs.declared.Record.{Record}
+use Rattle.book.specs.declared.SoFar.{SoFar}
+use Rattle.book.specs.declared.Stepped.{Stepped}
+use Rattle.book.proofs.Steps.{AllPast, way}
+use Rattle.book_laws.specs.Refuses.{Refuses, StopsAt}
+use Rattle.book_laws.proofs.Readings.{Ends, refused, accepted, ends, refused-reading}
+use Rattle.table.specs.declared.Verdict.the-variants as verdict
+
+-- ---- one lemma over a list of checks
+
+module _ (place : ℕ) (gives : Stepped) (why : Refusal) where
+  -- where the condition holds, the step is the refusal
+  pub refuses-gives : (ks : List Check) → Refuses why ks → firstOf ks place gives ≡ refusedAt why place
+  unfolding firstOf
+  refuses-gives [] r = absurd r
+  refuses-gives (k ∷ ks) (inl (h, e)) = rw (h, e)
+  refuses-gives (k ∷ ks) (inr (h, r)) = rw h (refuses-gives ks r)
+
+  -- and where the step is the refusal, the condition holds, if it is not what follows the checks
+  pub gives-refuses : (ks : List Check) → (AllPast ks → gives .outcome ≡ Refused why → ⊥) → firstOf ks place gives .outcome ≡ Refused why → Refuses why ks
+  unfolding firstOf
+  gives-refuses [] n e = n tt e
+  gives-refuses (k ∷ ks) n e = go (k .holds) refl e (gives-refuses ks)
+    where
+      go : (b : Bool) → k .holds ≡ b → pick b (refusedAt (k .why) place) (firstOf ks place gives) .outcome ≡ Refused why
+          → ((AllPast ks → gives .outcome ≡ Refused why → ⊥) → firstOf ks place gives .outcome ≡ Refused why → Refuses why ks) → Refuses why (k ∷ ks)
+      go true h e ih = inl (h, cc)
+      go false h e ih = inr (h, ih (λ past q. n (h, past) q) e)
+
+-- ---- the rule of a step: no refusal follows its checks that none of them gives, and each has a number of 1 to 12
+
+abbrev Numbered : List Check → Type 0
+Numbered [] = Unit {0}
+Numbered (k ∷ ks) = (numberOf (k .why) ≤ 12) × Numbered ks
+
+pub record Right (r : Rule) : Type 0 where
+  pub numbered : Numbered (r .checks)
+  pub follows : (why : Refusal) → AllPast (r .checks) → r .gives .outcome ≡ Refused why → ⊥
+
+given-not : (r : Record) (why : Refusal) → Given r ≡ Refused why → ⊥
+given-not r why e = let z : _≡_ {A = ℕ} 0 1 = cc in omega arith
+
+module _ (book : List ℕ) (place : ℕ) (sofar : SoFar) where
+  test-right : Right (testRule book place sofar)
+  unfolding testRule
+  test-right = record { numbered = (omega arith, (omega arith, (omega arith, tt))); follows = λ why k q. given-not _ why q }
+
+  fault-right : Right (faultRule book place sofar)
+  unfolding faultRule
+  fault-right = record { numbered = (omega arith, (omega arith, (omega arith, (omega arith, (omega arith, tt))))); follows = λ why k q. given-not _ why q }
+
+  response-right : Right (responseRule book place sofar)
+  unfolding responseRule
+  response-right = record { numbered = (omega arith, (omega arith, (omega arith, (omega arith, (omega arith, tt))))); follows = λ why k q. given-not _ why q }
+
+  end-right : Right (endRule book place sofar)
+  unfolding endRule
+  end-right = record { numbered = (omega arith, (omega arith, (omega arith, tt))); follows = λ why k q. given-not _ why q }
+
+  unknown-right : Right (unknownRule book place sofar)
+  unfolding unknownRule
+  unknown-right = record { numbered = (omega arith, tt); follows = λ why k q. clash true refl (k .0) }
+
+  edge-right : Right (edgeRule book place sofar)
+  unfolding edgeRule
+  edge-right = record { numbered = (omega arith, (omega arith, tt)); follows = λ why k q. let z : _≡_ {A = ℕ} 0 1 = cc in omega arith }
+
+  kind-right : (kind : ℕ) → Right (kindRule book place sofar kind)
+  unfolding kindRule
+  kind-right kind =
+      way Right (eqb kind 0x54) _ _ (λ _. test-right) λ _.
+      way Right (eqb kind 0x46) _ _ (λ _. fault-right) λ _.
+      way Right (eqb kind 0x52) _ _ (λ _. response-right) λ _.
+      way Right (eqb kind 0x45) _ _ (λ _. end-right) λ _.
+      unknown-right
+
+  rule-right : Right (ruleAt book place sofar)
+  unfolding ruleAt
+  rule-right = way Right (either (leb (length book) place) (eqb (rankOf (sofar .stage)) 3)) _ _ (λ _. edge-right) (λ _. kind-right (getD book place 0))
+
+  -- ---- the theorem, in both directions
+
+  pub step-refuses : (why : Refusal) → Refuses why (ruleAt book place sofar .checks) → stepAt book place sofar ≡ refusedAt why place
+  unfolding stepAt
+  step-refuses why r = refuses-gives place (ruleAt book place sofar .gives) why (ruleAt book place sofar .checks) r
+
+  pub refuses-step : (why : Refusal) → stepAt book place sofar .outcome ≡ Refused why → Refuses why (ruleAt book place sofar .checks)
+  unfolding stepAt
+  refuses-step why e = gives-refuses place (ruleAt book place sofar .gives) why (ruleAt book place sofar .checks) (rule-right .follows why) e
+
+  -- with the call's own checks before them
+  pub call-refuses : (why : Refusal) → Refuses why (callRule book place sofar .checks) → recordAt book place sofar ≡ refusedAt why place
+  unfolding recordAt
+  call-refuses why r = refuses-gives place (callRule book place sofar .gives) why (callRule book place sofar .checks) r
+
+  pub refuses-call : (why : Refusal) → recordAt book place sofar .outcome ≡ Refused why → Refuses why (callRule book place sofar .checks)
+  unfolding recordAt callRule
+  refuses-call why e = gives-refuses place (callRule book place sofar .gives) why (callRule book place sofar .checks) (λ k q. rule-right .follows why (k .1 .1) q) e
+
+  -- a step gives no other number than 1 to 12
+  pub step-number : (why : Refusal) → Refuses why (ruleAt book place sofar .checks) → numberOf why ≤ 12
+  step-number why r = go (ruleAt book place sofar .checks) (rule-right .numbered) r
+    where
+      go : (ks : List Check) → Numbered ks → Refuses why ks → numberOf why ≤ 12
+      go [] n r = absurd r
+      go (k ∷ ks) n (inl (h, e)) = rw (← e) (n .0)
+      go (k ∷ ks) n (inr (h, r)) = go ks (n .1) r
+
+-- ---- a whole book
+
+pub reading-stops : (book : List ℕ) (why : Refusal) → readBook book .verdict ≡ verdict.Refused why → StopsAt book why (readBook book .place)
+reading-stops book why h = go (ends book) h
+  where
+    go : {r : Reading} → Ends book r → r .verdict ≡ verdict.Refused why → StopsAt book why (r .place)
+    go (refused {place} {sofar} x w e) q =
+        let same : w ≡ why = cc in
+        record { sofar = sofar; reached = x; refuses = refuses-step book place sofar why (rw (e, same)) }
+    go (accepted x l u e) q = let z : _≡_ {A = ℕ} 0 1 = cc in absurd (omega arith)
+
+pub stops-reading : (book : List ℕ) (why : Refusal) (place : ℕ) → StopsAt book why place → readBook book ≡ record { verdict = verdict.Refused why; place = place; table = emptyTable }
+stops-reading book why place r = refused-reading (r .reached) why (step-refuses book place (r .sofar) why (r .refuses))

@@ -1,0 +1,4 @@
+pub mod Records
+pub mod Refuses
+pub mod Calls
+pub mod Accepts

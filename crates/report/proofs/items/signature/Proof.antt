@@ -1,0 +1,44 @@
+use borrow.Author.Needs.{needs}
+use Rattle.report.specs.Text.{signatureText}
+use Rattle.report.proofs.Pieces.{list-none, list-some}
+use Rattle.report.proofs.items.signature.Statement.{statement}
+use Rattle.report.proofs.items.signature.Tie as tie
+
+size-requires : tie.Need-size-requires
+size-requires c κs = search needs
+
+slice-aggregate-word : tie.Need-slice-aggregate-word
+slice-aggregate-word c = search needs
+
+word-requires : tie.Need-word-requires
+word-requires c κs = search needs
+
+same-length : tie.Need-same-length
+same-length c = search needs
+
+returns : tie.Need-returns
+unfolding signatureText
+returns c = search list-none
+
+outputs-requires : tie.Need-outputs-requires
+outputs-requires c κs = search needs
+
+same-length-2 : tie.Need-same-length-2
+same-length-2 c = search needs
+
+returns-2 : tie.Need-returns-2
+unfolding signatureText
+returns-2 c = search list-some
+
+pub signature-spec : {M : Type 1} → statement M
+signature-spec =
+    tie.close
+    (tie.spec
+    size-requires
+    slice-aggregate-word
+    word-requires
+    same-length
+    returns
+    outputs-requires
+    same-length-2
+    returns-2)

@@ -1,0 +1,44 @@
+use borrow.Author.Needs.{needs}
+use Rattle.report.specs.Text.{testsText}
+use Rattle.report.proofs.Pieces.{list-none, list-some}
+use Rattle.report.proofs.items.tests.Statement.{statement}
+use Rattle.report.proofs.items.tests.Tie as tie
+
+size-requires : tie.Need-size-requires
+size-requires c κs = search needs
+
+slice-aggregate-word : tie.Need-slice-aggregate-word
+slice-aggregate-word c = search needs
+
+word-requires : tie.Need-word-requires
+word-requires c κs = search needs
+
+same-length : tie.Need-same-length
+same-length c = search needs
+
+returns : tie.Need-returns
+unfolding testsText
+returns c = search list-none
+
+some-tests-requires : tie.Need-some-tests-requires
+some-tests-requires c κs = search needs
+
+same-length-2 : tie.Need-same-length-2
+same-length-2 c = search needs
+
+returns-2 : tie.Need-returns-2
+unfolding testsText
+returns-2 c = search list-some
+
+pub tests-spec : {M : Type 1} → statement M
+tests-spec =
+    tie.close
+    (tie.spec
+    size-requires
+    slice-aggregate-word
+    word-requires
+    same-length
+    returns
+    some-tests-requires
+    same-length-2
+    returns-2)

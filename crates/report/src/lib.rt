@@ -1,0 +1,3 @@
+// The text that pick prints.
+mod items;
+mod lines;
