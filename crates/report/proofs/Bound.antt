@@ -1,9 +1,10 @@
 -- No text is longer than 7,364 bytes, piece by piece. Assumes nothing.
 use mathlib.Core.Bool.{Bool, true, false}
 use mathlib.Core.List.{List, []}
-use mathlib.Core.Path.{_≡_, refl}
+use mathlib.Core.Path.{_≡_, refl, _∙_}
 use Prim.Native.Nat.{ℕ, zero, suc, _+_, _*_, _^_, _≤_, _<_}
 use native.Mathlib.Omega.{arith}
+use borrow.Author.Tests.{le-leb}
 use lib.Dec.{eqb}
 use lib.ListN.{getD, length, length-append}
 use Rattle.book.specs.Given.{Bytes}
@@ -15,12 +16,13 @@ use Rattle.classes.proofs.Meaning.{count-given}
 use Rattle.classes.specs.Classes.{classesOf}
 use Rattle.folds.proofs.Count.{count-le}
 use Rattle.folds.specs.Fold.{always, count, first, joined, pick, total}
+use Rattle.lent.specs.Lent.{roomNumber}
 use Rattle.report.proofs.Sums.{lengthOf, rows-most, rows-total, total-first, total-most, total-once, total-plus, total-zero, whenLength}
-use Rattle.report.specs.Answer.{IsText, TextOf}
+use Rattle.report.specs.Answer.{IsText, ReportIs, TextOf}
 use Rattle.report.specs.Text.{asideWord, classHead, classLine, classLines, classTail, detectWord, diagnoseWord, essentialWord, inClass, listText, memberText, membersText, noneWord, outputItem, refusedText, setLine, setLines, signatureText, sizesLine, spaced, tableText, testsText}
 use Rattle.sets.specs.Sets.{has}
 use Rattle.table.proofs.Formed.{tested}
-use Rattle.table.specs.Answers.{numberOf}
+use Rattle.table.specs.Answers.{numberOf, writtenNumber}
 use Rattle.table.specs.Table.{columns, outputAt}
 use Rattle.table.specs.WellFormed.{OfType, WellFormed}
 use Rattle.table.specs.declared.Refusal.{Refusal}
@@ -28,6 +30,7 @@ use Rattle.table.specs.declared.Refusal.the-variants.{UnknownKind, BodyCut, NoE
 use Rattle.table.specs.declared.Table.{Table}
 use Rattle.table.specs.declared.Verdict.{Verdict}
 use Rattle.table.specs.declared.Verdict.the-variants.{Accepted, Refused}
+use Rattle.table.specs.declared.Written.{Written}
 use Rattle.terms.specs.Columns.{lowest}
 use Rattle.text.proofs.Decimal.{decimal-length}
 
@@ -179,3 +182,9 @@ text-most book text b t = go (readBook book .verdict) refl t
         let g = accepted-gave book _ (accepts-whole book e) in
         rw (t .is-text) (table-most _ (g .formed) (g .typed b) (t .aside) (t .essential) (t .detect) (t .diagnose))
     go (Refused why) e t = rw t (refused-most (numberOf why) (readBook book .place) (number-most why) (place-most book .0))
+
+-- a buffer of that size is never too short
+pub long-enough : (book entry : List ℕ) (r : Written) (exit : List ℕ) → Bytes book → longest ≤ length entry → ReportIs book entry r exit → writtenNumber r ≡ 0
+unfolding roomNumber
+long-enough book entry r exit b l a =
+    a .written .number ∙ rw (le-leb (length (a .text)) (length entry) (omega (arith, text-most book (a .text) b (a .is-text)))) refl

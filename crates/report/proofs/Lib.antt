@@ -3,3 +3,4 @@ pub mod Numbers
 pub mod Sums
 pub mod Bound
 pub mod Page
+pub mod Pins

@@ -5,7 +5,7 @@ use mathlib.Core.Path.{_≡_, refl, sym, ap, _∙_}
 use Prim.Native.Nat.{ℕ, _≤_, _<_}
 use native.Mathlib.Omega.{arith}
 use borrow.Author.Tests.{le-leb, lt-leb}
-use lib.ListN.{getD, length, take}
+use lib.ListN.{getD, length, length-replicate, replicate, take}
 use lib.Seq.{take-append-seam}
 use mir.Syntax.{w8}
 use mir.Val.{Fits}
@@ -93,18 +93,18 @@ module _ (book : List ℕ) (reading : Reading) (e : reading ≡ readBook book) (
 
 -- ---- the page holds the whole text; d is what the lent buffer held
 
-module _ (book page page′ : List ℕ) (size : ℕ) (b : (i : ℕ) → Fits w8 (getD book i 0)) (long : length page ≡ longest) (p : Paged (IsText book) page size page′) where
-  fits : length (p .text) ≤ length page
-  fits = rw long (text-most book (p .text) (λ i. b i .fits) (p .is-text))
+module _ (book page : List ℕ) (size : ℕ) (b : (i : ℕ) → Fits w8 (getD book i 0)) (p : Paged (IsText book) (replicate longest 0) size page) where
+  fits : length (p .text) ≤ length {A = ℕ} (replicate longest 0)
+  fits = rw (length-replicate {A = ℕ} longest 0) (text-most book (p .text) (λ i. b i .fits) (p .is-text))
 
   size-is : size ≡ length (p .text)
-  size-is = writes-all size (p .text) page page′ (p .writes) fits
+  size-is = writes-all size (p .text) (replicate longest 0) page (p .writes) fits
 
-  page-is : take size page′ ≡ p .text
+  page-is : take size page ≡ p .text
   unfolding onto
-  page-is = rw (size-is, writes-onto size (p .text) page page′ (p .writes) fits) (take-append-seam (p .text) _)
+  page-is = rw (size-is, writes-onto size (p .text) (replicate longest 0) page (p .writes) fits) (take-append-seam (p .text) _)
 
-  pub page-part : size ≡ length (take size page′)
+  pub page-part : size ≡ length (take size page)
   page-part = size-is ∙ ap length (sym page-is)
 
   pub report-short : (d : List ℕ) → length d < size → ReportIs book d (written.Refused BufferShort) d
@@ -115,7 +115,7 @@ module _ (book page page′ : List ℕ) (size : ℕ) (b : (i : ℕ) → Fits w8 
     written = record { number = rw (← size-is, lt-leb size (length d) l) refl; count = refl; buffer = refl };
   }
 
-  pub report-written : (r : ℕ) (d d′ : List ℕ) → size ≤ length d → Writes 0 (take size page′) d r d′ → ReportIs book d (written.Bytes r) d′
+  pub report-written : (r : ℕ) (d d′ : List ℕ) → size ≤ length d → Writes 0 (take size page) d r d′ → ReportIs book d (written.Bytes r) d′
   unfolding roomNumber
   report-written r d d′ l v =
       let w : Writes 0 (p .text) d r d′ = rw page-is at v in
