@@ -2,25 +2,18 @@
 use mathlib.Core.List.{List}
 use mathlib.Core.Logic.{inl, inr, ⊎-elim}
 use mathlib.Core.Path.{_≡_, sym, ap, _∙_}
-use Prim.Native.Nat.{ℕ, _+_, _-_, _*_, _/_, _%_, _^_, _≤_, _<_, max}
+use Prim.Native.Nat.{ℕ, _+_, _-_, _*_, _/_, _%_, _^_, _≤_, _<_}
 use native.Mathlib.Nat.{mod-eq-of-lt, lt-of-le-of-lt, div-mul-le-self, mul-mod-left}
 use native.Mathlib.Omega.{arith}
-use lib.Arith.{digits-mod}
-use lib.Bits.{bitAnd, bitOr, or-shr, or-step}
+use lib.Bits.{bitAnd, bitOr}
 use lib.ListN.{length, getD}
 use lib.Pow.{shr-shr, shl-shr}
 use Rattle.folds.proofs.Below.{lt-or-ge}
 use Rattle.sets.specs.Sets.{bit, weight}
 use Rattle.sets.proofs.Bits.{bit-low, bit-high, bit-zero, bit-below}
-use Rattle.cover.proofs.Shared.{bit-and, shares-not}
+use Rattle.sets.proofs.Shared.{bit-and, bit-or, shares-not}
 use Rattle.choice.specs.Search.{Open, RestOf, OneMore, NeedsMore}
-use Rattle.choice.proofs.Weights.{weight-two, weight-more}
-
-bit-or : (a b t : ℕ) → bit (bitOr a b) t ≡ max (bit a t) (bit b t)
-unfolding bit
-bit-or a b t =
-    ap (λ (x : ℕ). x % 2) (or-shr a b t ∙ or-step (a / 2 ^ t) (b / 2 ^ t))
-    ∙ digits-mod (bitOr (a / 2 ^ t / 2) (b / 2 ^ t / 2)) {m = 2} (omega arith)
+use Rattle.sets.proofs.Weight.{weight-two, weight-more}
 
 -- ---- the keep tests from t on
 

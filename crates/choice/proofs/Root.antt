@@ -11,7 +11,7 @@ use lib.Seq.{take-append-seam}
 use Rattle.folds.proofs.Below.{lt-or-ge}
 use Rattle.sets.specs.Sets.{Within, one}
 use Rattle.sets.proofs.Bits.{below-of-bits}
-use Rattle.sets.proofs.Weight.{weight-empty}
+use Rattle.sets.proofs.Weight.{weight-empty, size-most}
 use Rattle.table.specs.WellFormed.{WellFormed}
 use Rattle.table.specs.declared.Chosen.the-variants.{Tests, Refused}
 use Rattle.table.specs.declared.Refusal.the-variants.{NoneWithinCap}
@@ -21,7 +21,7 @@ use Rattle.terms.specs.Terms.{Reaches, Kept}
 use Rattle.terms_laws.proofs.Choice.{choice-exists, choice-fewest, strike-out}
 use Rattle.cover.specs.declared.inner.Masks.{Masks}
 use Rattle.cover.specs.Answer.{keptSet}
-use Rattle.cover.specs.Collect.{setOf}
+use Rattle.sets.specs.Collect.{setOf}
 use Rattle.cover.specs.Filled.{Filled}
 use Rattle.cover.specs.Kept.{kept}
 use Rattle.cover.specs.Masks.{masksOf}
@@ -33,7 +33,6 @@ use Rattle.choice.specs.declared.search.Found.the-variants.{Set, Nothing
 use Rattle.choice.specs.Answer.{Sought, withinCap, ChoiceIs}
 use Rattle.choice.specs.Order.{Reordered}
 use Rattle.choice.specs.Search.{Node, Open, Best}
-use Rattle.choice.proofs.Weights.{size-most}
 
 pub one-positive : (t : ℕ) → 0 < one t
 unfolding one

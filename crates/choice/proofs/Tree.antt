@@ -11,13 +11,12 @@ use lib.Bits.{bitAnd}
 use lib.ListN.{length, getD}
 use lib.Pow.{pow-mono, pow-pos}
 use Rattle.folds.proofs.Below.{lt-or-ge}
-use Rattle.sets.specs.Sets.{bit, weight, Before}
+use Rattle.sets.specs.Sets.{bit, weight, Before, Shares}
 use Rattle.sets.proofs.Bits.{bit-cases, mod-in, mod-out, bit-low, bit-high, bit-below, top-lt, top-below}
 use Rattle.sets.proofs.Order.{precedes-weight}
 use Rattle.sets.proofs.Weight.{weight-top}
-use Rattle.cover.specs.Collect.{withTest}
-use Rattle.cover.specs.Masks.{Shares}
-use Rattle.cover.proofs.Shared.{shares, shares-not}
+use Rattle.sets.specs.Collect.{withTest}
+use Rattle.sets.proofs.Shared.{shares, shares-not}
 use Rattle.choice.specs.declared.search.Found.{Found}
 use Rattle.choice.specs.declared.search.Found.the-variants.{Set, Nothing}
 use Rattle.choice.specs.Search.{FirstUnhit, Node, Open, NeedsMore, Best, limitAfter, orElse}

@@ -21,12 +21,12 @@ use Rattle.table.specs.declared.Table.{Table}
 use Rattle.table.proofs.Formed.{formed}
 use Rattle.terms.specs.Columns.{agrees}
 use Rattle.terms.specs.Terms.{TestOf}
-use Rattle.cover.specs.Collect.{withTest, setOf}
+use Rattle.sets.specs.Collect.{withTest, setOf}
 use Rattle.cover.specs.Masks.{goalPair, differs, maskOf, goalMask, counts, maskRow, masksOf}
 use Rattle.choice.specs.Answer.{ChoiceIs}
 use Rattle.choice.proofs.Pins.{apart, choose-pins}
 use Rattle.choice_laws.proofs.Small.{hitsAll, firstIn, precedes, noBetter, isChoice, choice-of}
-use Rattle.choice.proofs.Weights.{size-most}
+use Rattle.sets.proofs.Weight.{size-most}
 
 -- ---- small tables: a row for each test, the correct output first, then that of each fault
 

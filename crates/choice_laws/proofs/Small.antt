@@ -19,7 +19,7 @@ use Rattle.table.specs.declared.Goal.{Goal}
 use Rattle.table.specs.declared.Table.{Table}
 use Rattle.terms.specs.Choice.{Choice}
 use Rattle.cover.specs.Masks.{Hits, masksOf}
-use Rattle.cover.proofs.Shared.{shares, shares-not}
+use Rattle.sets.proofs.Shared.{shares, shares-not}
 use Rattle.cover.proofs.Goals.{hits-reaches, reaches-hits}
 
 unfoldable pub hitsAll : List ℕ → ℕ → Bool

@@ -17,9 +17,9 @@ use Rattle.table.proofs.Formed.{accepted, rejected, few-columns}
 use Rattle.terms.specs.Columns.{lowest}
 use Rattle.terms_laws.proofs.Classes.{alike-tells}
 use Rattle.classes.specs.Classes.{unnumbered, numbersOf, classesOf}
-use Rattle.classes.specs.Sets.{setOf}
+use Rattle.sets.specs.Collect.{setOf}
 use Rattle.classes.specs.Undetectable.{undetected, UndetectableFault, UndetectableIn}
-use Rattle.classes.proofs.Sets.{set-has, set-high}
+use Rattle.sets.proofs.Collect.{set-tells, set-high}
 use Rattle.table.specs.declared.Faults.the-variants as faults
 use Rattle.table.specs.declared.Verdict.the-variants as verdict
 
@@ -28,7 +28,7 @@ undetected-tells : (tb : Table) (f : ℕ) → Tells (has (setOf (undetected (out
 unfolding undetected
 undetected-tells tb f = ⊎-elim
     (λ (w : f < tb .faults).
-    let e = set-has (undetected (outputAt tb) (tb .tests)) (tb .faults) f w in
+    let e = set-tells (undetected (outputAt tb) (tb .tests)) (tb .faults) f w in
     tells-by _ (λ h. (w, tells-yes _ (alike-tells tb 0 (f + 1)) (sym e ∙ h))) (λ h k. tells-no _ (alike-tells tb 0 (f + 1)) (sym e ∙ h) (k .1)))
     (λ (w : tb .faults ≤ f).
     let e = set-high (undetected (outputAt tb) (tb .tests)) (tb .faults) f w in

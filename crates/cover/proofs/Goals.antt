@@ -12,7 +12,7 @@ use lib.ListN.{length, getD}
 use Rattle.folds.specs.Fold.{pick, joined, single, always}
 use Rattle.folds.proofs.Bools.{clash, both-true, both-left, both-right}
 use Rattle.folds.proofs.Below.{below-cases}
-use Rattle.sets.specs.Sets.{bit}
+use Rattle.sets.specs.Sets.{bit, Shares}
 use Rattle.sets.proofs.Bits.{bit-zero, some-bit}
 use Rattle.table.specs.Table.{outputAt, columns}
 use Rattle.table.specs.declared.Goal.{Goal}
@@ -20,8 +20,8 @@ use Rattle.table.specs.declared.Goal.the-variants.{Detect, Diagnose}
 use Rattle.table.specs.declared.Table.{Table}
 use Rattle.terms.specs.Columns.{agrees}
 use Rattle.terms.specs.Terms.{TestOf, Separates, GoalPair, Counts, Reaches}
-use Rattle.cover.specs.Masks.{Shares, Hits, goalPair, differs, maskOf, goalMask, counts, maskRow, masksOf}
-use Rattle.cover.proofs.Collect.{set-lt, set-below, set-has, set-in}
+use Rattle.cover.specs.Masks.{Hits, goalPair, differs, maskOf, goalMask, counts, maskRow, masksOf}
+use Rattle.sets.proofs.Collect.{set-lt, set-below, set-has, set-in}
 
 -- ---- every entry of a list has Q
 

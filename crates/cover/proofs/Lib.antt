@@ -1,7 +1,5 @@
-pub mod Collect
 pub mod Masks
 pub mod Fill
-pub mod Shared
 pub mod Goals
 pub mod Kept
 pub mod Aside

@@ -11,7 +11,7 @@ use Rattle.table.specs.declared.Goal.{Goal}
 use Rattle.table.specs.declared.Goal.the-variants.{Detect}
 use Rattle.table.specs.declared.Table.{Table}
 use Rattle.terms.specs.Terms.{TestOf, Aside}
-use Rattle.cover.specs.Collect.{setOf}
+use Rattle.sets.specs.Collect.{setOf}
 use Rattle.cover.specs.Masks.{masksOf}
 use Rattle.cover.specs.Kept.{kept, lone}
 

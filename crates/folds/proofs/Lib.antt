@@ -1,6 +1,7 @@
 pub mod Bools
 pub mod Below
 pub mod Every
+pub mod Some
 pub mod Count
 pub mod Total
 pub mod First

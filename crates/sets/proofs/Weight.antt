@@ -2,10 +2,11 @@
 use mathlib.Core.Path.{_≡_, refl, sym, _∙_}
 use mathlib.Core.Logic.{⊎-elim}
 use Prim.Native.Nat.{ℕ, zero, suc, _+_, _^_, _≤_, _<_}
-use native.Mathlib.Nat.{one-mul, zero-mul}
+use native.Mathlib.Nat.{one-mul, zero-mul, add-mul, mul-le-mul-right}
 use native.Mathlib.Omega.{arith}
 use Rattle.folds.specs.Fold.{pick, total, count}
-use Rattle.folds.proofs.Total.{total-same, total-apart, total-stays, total-none, total-more}
+use Rattle.folds.proofs.Count.{count-le}
+use Rattle.folds.proofs.Total.{total-same, total-apart, total-stays, total-none, total-more, total-two, total-gap}
 use Rattle.sets.specs.Sets.{bit, has, share, weight, one, size}
 use Rattle.sets.proofs.Bits.{bit-cases, bit-high, has-yes, has-no, top-bit, top-below, top-lt}
 use Rattle.sets.proofs.Flip.{flip, flip-out, flip-in, flip-other}
@@ -57,6 +58,24 @@ module _ (w : ℕ → ℕ) where
   pub weight-empty : weight w 0 ≡ 0
   weight-empty = weight-below 0 0 (omega arith) (omega arith) ∙ total-none (share w 0)
 
+  -- ---- weights, test by test
+
+  share-two : (a b s i : ℕ) → bit a i + bit b i ≤ bit s i → share w a i + share w b i ≤ share w s i
+  unfolding share
+  share-two a b s i h = rw (← add-mul (bit a i) (bit b i) (w i)) (mul-le-mul-right (w i) h)
+
+  share-le : (a b i : ℕ) → bit a i ≤ bit b i → share w a i ≤ share w b i
+  unfolding share
+  share-le a b i h = mul-le-mul-right (w i) h
+
+  pub weight-two : (a b s : ℕ) → ((i : ℕ) → bit a i + bit b i ≤ bit s i) → weight w a + weight w b ≤ weight w s
+  weight-two a b s h = total-two (share w a) (share w b) (share w s) 24 (λ i. share-two a b s i (h i))
+
+  -- a set with a test j more
+  pub weight-more : (a b j : ℕ) → j < 24 → ((i : ℕ) → bit a i ≤ bit b i) → bit a j ≡ 0 → bit b j ≡ 1 → weight w a + w j ≤ weight w b
+  weight-more a b j l h o e =
+      total-gap (share w a) (share w b) 24 j (w j) l (λ i. share-le a b i (h i)) (omega (arith, share-out a j o, share-in b j e))
+
 -- where each test weighs 1 the weight is the number of tests
 pub weight-counts : (s n : ℕ) → total (share one s) n ≡ count (has s) n
 unfolding total count
@@ -71,3 +90,6 @@ weight-counts s (suc n) = ⊎-elim
 
 pub size-counts : (n s : ℕ) → n ≤ 24 → s < 2 ^ n → size s ≡ count (has s) n
 size-counts n s l h = weight-below one n s l h ∙ weight-counts s n
+
+pub size-most : (s : ℕ) → s < 2 ^ 24 → size s ≤ 24
+size-most s h = omega (arith, size-counts 24 s (omega arith) h, count-le (has s) 24)

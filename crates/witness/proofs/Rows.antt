@@ -12,8 +12,8 @@ use Rattle.folds.proofs.Count.{count-none, count-yes, count-no, count-less}
 use Rattle.folds.proofs.Gather.{gather-length}
 use Rattle.sets.specs.Sets.{has}
 use Rattle.terms.specs.Columns.{lowest}
-use Rattle.classes.specs.Sets.{setOf}
-use Rattle.classes.proofs.Sets.{set-has}
+use Rattle.sets.specs.Collect.{setOf}
+use Rattle.sets.proofs.Collect.{set-tells}
 use Rattle.witness.specs.Witness.{aboveIn, lowestTest, witnessOf, above, witnesses}
 
 module _ (out : ℕ → ℕ → ℕ) (tests : ℕ) where
@@ -30,11 +30,11 @@ module _ (out : ℕ → ℕ → ℕ) (tests : ℕ) where
   -- ---- the set of the lowest columns answers for them
 
   pub low-in : (n lows i : ℕ) (r : Bool) → lows ≡ setOf (lowest out tests) n → i < n → r ≡ has lows i → r ≡ lowest out tests i
-  low-in n lows i r e w h = h ∙ rw e (set-has (lowest out tests) n i w)
+  low-in n lows i r e w h = h ∙ rw e (set-tells (lowest out tests) n i w)
 
   pub above-in : (n lows a i : ℕ) (r : Bool) → lows ≡ setOf (lowest out tests) n → i < n → r ≡ aboveIn lows a i → r ≡ above out tests a i
   unfolding aboveIn above
-  above-in n lows a i r e w h = h ∙ rw (e, set-has (lowest out tests) n i w)
+  above-in n lows a i r e w h = h ∙ rw (e, set-tells (lowest out tests) n i w)
 
   -- ---- how many classes are above that of column a
 
