@@ -9,7 +9,7 @@ use Rattle.table.specs.WellFormed.{WellFormed, OfType}
 use Rattle.table.specs.declared.Table.{Table}
 use Rattle.book.specs.BookOf.{testBytes, faultBytes, responseBytes, answersWrong, responsesOf, bookOf}
 use Rattle.book.specs.Given.{Bytes}
-use Rattle.book_laws.proofs.Cells.{cell-byte}
+use Rattle.table.proofs.Stored.{cell-byte}
 
 -- each byte by itself
 abbrev Each : List ℕ → Type 0

@@ -25,10 +25,11 @@ use Rattle.book.specs.declared.Record.the-variants.{Test, Fault, Response, End}
 use Rattle.book.specs.declared.Stage.{Stage}
 use Rattle.book.specs.declared.Stage.the-variants.{Tests, Faults, Responses, Ended}
 use Rattle.book_laws.proofs.Along.{Along, along, go-on, test-step, fault-step, response-step}
-use Rattle.book_laws.proofs.Cells.{cell-here, cell-there, cells-same}
+use Rattle.table.proofs.Stored.{cell-here, cell-there, cells-same}
 use Rattle.book_laws.proofs.Good.{reached-good}
 use Rattle.book_laws.proofs.Grown.{Long, filled-here, filled-there, label-new}
-use Rattle.book_laws.proofs.Rows.{always-true, rowsFrom, joined-from, rows-none, rows-take, rows-skip}
+use Rattle.folds.proofs.Gather.{always-true}
+use Rattle.folds.proofs.Rows.{rowsFrom, joined-from, rows-none, rows-take, rows-skip}
 
 -- a table is its parts
 pub table-same : {u t : Table} → u .tests ≡ t .tests → u .faults ≡ t .faults → u .cells ≡ t .cells → u .lines ≡ t .lines → u .stuck ≡ t .stuck → u ≡ t

@@ -5,7 +5,7 @@ use Prim.Native.Nat.{ℕ, _+_, _<_}
 use native.Mathlib.Omega.{arith}
 use lib.ListN.{getD}
 use Rattle.folds.specs.Fold.{pick}
-use Rattle.folds.proofs.Bools.{tells-yes}
+use Rattle.folds.proofs.Bools.{tells-yes, told-true}
 use Rattle.folds.proofs.Gather.{listed-at}
 use Rattle.sets.specs.Sets.{has}
 use Rattle.table.specs.Answers.{verdictNumber, faultsSet}
@@ -16,7 +16,7 @@ use Rattle.table.specs.declared.Faults.{Faults}
 use Rattle.table.specs.declared.Table.{Table}
 use Rattle.terms.specs.Columns.{classNumber}
 use Rattle.terms.specs.Terms.{classOf, classCount}
-use Rattle.terms_laws.proofs.Classes.{undetectable-zero, zero-undetectable, told-true}
+use Rattle.terms_laws.proofs.Classes.{undetectable-zero, zero-undetectable}
 use Rattle.classes.specs.Classes.{unnumbered, numbersOf, classesOf}
 use Rattle.classes.specs.Undetectable.{UndetectableIn}
 

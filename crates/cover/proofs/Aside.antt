@@ -25,7 +25,8 @@ use Rattle.cover.specs.Answer.{keptSet, loneSet, Exactly, AsideTest}
 use Rattle.sets.proofs.Collect.{set-below, set-has, set-in, set-others}
 use Rattle.folds.proofs.Some.{some-of, some-at}
 use Rattle.sets.proofs.Shared.{only-in, only-one, only-of}
-use Rattle.cover.proofs.Goals.{AllOf, pairMask, mask-lt, mask-separates, mask-in, masks-all, masks-at}
+use Rattle.cover.proofs.Goals.{pairMask, mask-lt, mask-separates, mask-in, masks-all, masks-at}
+use Rattle.folds.proofs.All.{AllOf}
 
 -- ---- what the tests over masks say
 

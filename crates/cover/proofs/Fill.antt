@@ -1,14 +1,14 @@
 -- The rows of masks, one behind the other in one array. Assumes nothing.
-use mathlib.Core.List.{List, [], _++_, append-assoc, append-nil}
+use mathlib.Core.List.{List, [], _++_}
 use mathlib.Core.Path.{_≡_, refl, sym, ap, _∙_}
 use Prim.Native.Nat.{ℕ, zero, suc, _+_, _-_, _≤_, _<_}
 use native.Mathlib.Numerals.{add-one}
 use native.Mathlib.Omega.{arith}
-use lib.ListN.{length, take, drop, length-append, length-drop, length-replicate}
-use lib.Seq.{drop-drop, drop-length, take-length, take-append-seam, drop-append-seam}
+use lib.ListN.{length, take, drop, length-append, length-replicate}
+use lib.Seq.{take-append-seam}
 use Rattle.folds.specs.Fold.{total, joined, always, onto}
 use Rattle.folds.proofs.Total.{total-more, total-grows}
-use Rattle.folds.proofs.Onto.{onto-length}
+use Rattle.folds.proofs.Onto.{onto-length, onto-behind}
 use Rattle.folds.proofs.Joined.{joined-none, joined-yes}
 use Rattle.table.specs.declared.Goal.{Goal}
 use Rattle.table.specs.declared.Table.{Table}
@@ -16,19 +16,6 @@ use Rattle.cover.specs.declared.inner.Masks.{Masks}
 use Rattle.cover.specs.Masks.{maskRow, masksOf}
 use Rattle.cover.specs.Filled.{noMasks, Filled}
 use Rattle.cover.proofs.Masks.{row-few}
-
--- a list written to what is behind `at`, where `at` is the end of what was written before: the buffer as a call
--- `f(&mut b[at..])` leaves it
-onto-behind : (ys xs d b b′ row : List ℕ) (at m : ℕ) → length b ≡ m → b ≡ onto ys d → at ≡ length ys
-    → row ≡ onto xs (take (m - at) (drop at b)) → b′ ≡ take at b ++ (row ++ drop (m - at) (drop at b)) → b′ ≡ onto (ys ++ xs) d
-unfolding onto
-onto-behind ys xs d b b′ row at m l e k r h =
-    let n : m - at ≡ length (drop at b) = rw (← l) (sym (length-drop at b)) in
-    let f : take at b ≡ ys = rw (e, k) (take-append-seam ys (drop (length ys) d)) in
-    let g : drop at b ≡ drop (length ys) d = rw (e, k) (drop-append-seam ys (drop (length ys) d)) in
-    h
-    ∙ ap (λ (x : List ℕ). take at b ++ (x ++ drop (m - at) (drop at b))) r
-    ∙ rw (n, take-length (drop at b), drop-length (drop at b), append-nil, f, g, length-append, append-assoc, drop-drop)
 
 none-long : length noMasks ≡ 1830
 unfolding noMasks

@@ -3,5 +3,4 @@ pub mod Fill
 pub mod Goals
 pub mod Kept
 pub mod Aside
-pub mod Well
 pub mod Pins

@@ -7,5 +7,7 @@ pub mod Total
 pub mod First
 pub mod Onto
 pub mod Joined
+pub mod Rows
+pub mod All
 pub mod Gather
 pub mod Decide

@@ -1,11 +1,14 @@
 -- Laws of `onto`: a list over the front of a buffer. Assumes nothing.
-use mathlib.Core.Path.{_≡_, refl, ap, _∙_}
+use mathlib.Core.Path.{_≡_, refl, sym, ap, _∙_}
 use mathlib.Core.List.{List, [], _∷_, _++_, append-assoc, append-nil}
-use Prim.Native.Nat.{ℕ, _+_, _-_, _≤_, _<_}
+use Prim.Native.Nat.{ℕ, _+_, _-_, _^_, _≤_, _<_}
+use native.Mathlib.Nat.{lt-of-le-of-lt}
 use native.Mathlib.Numerals.{add-one}
 use native.Mathlib.Omega.{arith}
 use lib.ListN.{length, take, drop, set, length-append, length-drop, length-take, length-set}
-use lib.Seq.{drop-drop, drop-cons, set-append-seam, append-snoc, drop-length, take-append-seam, drop-append-seam}
+use lib.Seq.{take-length, drop-drop, drop-cons, set-append-seam, append-snoc, drop-length, take-append-seam, drop-append-seam}
+use mir.Syntax.{w64}
+use mir.Val.{Fits}
 use Rattle.folds.specs.Fold.{onto}
 
 pub onto-none : (d : List ℕ) → onto [] d ≡ d
@@ -39,9 +42,26 @@ pub onto-part : (xs row d s s′ : List ℕ) (at n : ℕ) → s ≡ onto xs d �
     → s′ ≡ take at s ++ (row ++ drop (at + n - at) (drop at s)) → s′ ≡ onto (xs ++ row) d
 onto-part xs row d s s′ at n e ea en t = t ∙ rw (e, ea, en) (onto-part₀ xs row d)
 
+-- a list written to what is behind `at`, where `at` is the end of what was written before: the buffer as a call
+-- `f(&mut b[at..])` leaves it
+pub onto-behind : (ys xs d b b′ row : List ℕ) (at m : ℕ) → length b ≡ m → b ≡ onto ys d → at ≡ length ys
+    → row ≡ onto xs (take (m - at) (drop at b)) → b′ ≡ take at b ++ (row ++ drop (m - at) (drop at b)) → b′ ≡ onto (ys ++ xs) d
+unfolding onto
+onto-behind ys xs d b b′ row at m l e k r h =
+    let n : m - at ≡ length (drop at b) = rw (← l) (sym (length-drop at b)) in
+    let f : take at b ≡ ys = rw (e, k) (take-append-seam ys (drop (length ys) d)) in
+    let g : drop at b ≡ drop (length ys) d = rw (e, k) (drop-append-seam ys (drop (length ys) d)) in
+    h
+    ∙ ap (λ (x : List ℕ). take at b ++ (x ++ drop (m - at) (drop at b))) r
+    ∙ rw (n, take-length (drop at b), drop-length (drop at b), append-nil, f, g, length-append, append-assoc, drop-drop)
+
 -- the part that is lent is as long as its row
 pub part-length : (n at k : ℕ) (b : List ℕ) → at + n ≤ length b → n ≡ k → length (take (at + n - at) (drop at b)) ≡ k
 part-length n at k b h e = simp (length-take, length-drop) (omega arith)
+
+-- the end of a part that lies in the buffer fits
+pub part-fits : (n at : ℕ) (d b : List ℕ) → at + n ≤ length b → length b ≡ length d → length d < 2 ^ 64 → Fits w64 (at + n)
+part-fits n at d b h l m = record { fits = lt-of-le-of-lt h (rw l m) }
 
 -- a store, no store, and a part that came back keep the length
 pub kept-set : (s s′ d : List ℕ) (j v : ℕ) → s′ ≡ set s j v → length s ≡ length d → length s′ ≡ length d

@@ -12,7 +12,7 @@ use lib.ListN.{length, getD, List·getD-append}
 use Rattle.folds.specs.Fold.{pick, count, gather, single, onto}
 use Rattle.folds.proofs.Below.{lt-or-ge}
 use Rattle.folds.proofs.Count.{count-less, count-mono, count-reaches}
-use Rattle.folds.proofs.Gather.{gather-length}
+use Rattle.folds.proofs.Gather.{gather-length, gather-get}
 use Rattle.folds.proofs.Joined.{joined-none, joined-no}
 use Rattle.sets.specs.Sets.{has, within}
 use Rattle.sets.proofs.Bits.{bit-zero, has-no, within-of}
@@ -23,7 +23,6 @@ use Rattle.table.specs.declared.Suspects.{Suspects}
 use Rattle.table.specs.declared.Table.{Table}
 use Rattle.terms.specs.Columns.{outputOf}
 use Rattle.terms.specs.Terms.{signature}
-use Rattle.terms_laws.proofs.Classes.{gather-get}
 use Rattle.suspects.specs.Suspects.{unlisted, itself, suspect, foundUnder, refusedBy, suspectsOf}
 use Rattle.suspects.proofs.Answers.{suspect-same, same-suspect}
 

@@ -1,7 +1,7 @@
 use mathlib.Core.Path.{refl}
 use native.Mathlib.Omega.{arith}
 use borrow.Author.Needs.{needs}
-use Rattle.cover.proofs.Well.{well, ill}
+use Rattle.table.proofs.Formed.{well, ill}
 use Rattle.table.specs.WellFormed.{WellFormed}
 use Rattle.sets.proofs.Collect.{one-shl}
 use Rattle.cover.proofs.Aside.{kept-fits, aside-exactly}
