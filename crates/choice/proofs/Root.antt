@@ -34,14 +34,6 @@ use Rattle.choice.specs.Answer.{Sought, withinCap, ChoiceIs}
 use Rattle.choice.specs.Order.{Reordered}
 use Rattle.choice.specs.Search.{Node, Open, Best}
 
-pub one-positive : (t : ℕ) → 0 < one t
-unfolding one
-one-positive t = omega arith
-
-pub one-is : (t : ℕ) → one t ≡ 1
-unfolding one
-one-is t = refl
-
 -- nothing is decided
 pub node-root : (w : ℕ → ℕ) (masks : List ℕ) → Node w masks 0 0 0 0
 node-root w masks = record { depth = omega arith; decided = omega arith; weighed = sym (weight-empty w); start = omega arith; hit = λ k l. absurd (omega arith) }

@@ -1,7 +1,7 @@
 -- Weights of sets that agree or share nothing, for any positive weight of each test. Assumes nothing.
 use mathlib.Core.Logic.{⊎-elim}
 use mathlib.Core.Path.{_≡_, sym, ap, _∙_}
-use Prim.Native.Nat.{ℕ, suc, _+_, _*_, _%_, _^_, _≤_, _<_}
+use Prim.Native.Nat.{ℕ, suc, _+_, _%_, _^_, _≤_, _<_}
 use native.Mathlib.Nat.{lt-of-lt-of-le}
 use native.Mathlib.Omega.{arith}
 use lib.Pow.{pow-mono}
@@ -10,7 +10,7 @@ use Rattle.folds.proofs.Below.{lt-or-ge}
 use Rattle.folds.proofs.Total.{total-more, total-same, total-grows}
 use Rattle.sets.specs.Sets.{bit, share, weight}
 use Rattle.sets.proofs.Bits.{bit-cases, bit-low, bit-high, bits-equal}
-use Rattle.sets.proofs.Weight.{share-in, weight-below}
+use Rattle.sets.proofs.Weight.{share-same, share-in, weight-below}
 
 module _ (w : ℕ → ℕ) where
   -- a set that agrees with what is chosen below t
@@ -19,8 +19,7 @@ module _ (w : ℕ → ℕ) where
     agreed-bit i l = ap (λ (x : ℕ). bit x i) (sym agrees) ∙ bit-low s t i l
 
     agreed-part : weight w chosen ≡ total (share w s) t
-    unfolding share
-    agreed-part = weight-below w t chosen depth decided ∙ total-same (share w chosen) (share w s) t (λ i l. ap (λ (x : ℕ). x * w i) (agreed-bit i l))
+    agreed-part = weight-below w t chosen depth decided ∙ total-same (share w chosen) (share w s) t (λ i l. share-same w chosen s i (agreed-bit i l))
 
     pub agreed-weight : weight w chosen ≤ weight w s
     agreed-weight = omega (arith, agreed-part, total-grows (share w s) t 24 depth)

@@ -5,10 +5,10 @@ use Prim.Native.Nat.{ℕ, zero, suc, _+_, _-_, _≤_, _<_}
 use native.Mathlib.Numerals.{add-one}
 use native.Mathlib.Omega.{arith}
 use lib.ListN.{length, take, drop, length-append, length-replicate}
-use lib.Seq.{take-append-seam}
 use Rattle.folds.specs.Fold.{total, joined, always, onto}
 use Rattle.folds.proofs.Total.{total-more, total-grows}
-use Rattle.folds.proofs.Onto.{onto-length, onto-behind}
+use Rattle.folds.proofs.Gather.{always-true}
+use Rattle.folds.proofs.Onto.{onto-length, onto-front, onto-room, onto-behind}
 use Rattle.folds.proofs.Joined.{joined-none, joined-yes}
 use Rattle.table.specs.declared.Goal.{Goal}
 use Rattle.table.specs.declared.Table.{Table}
@@ -35,8 +35,8 @@ module _ (out : ℕ → ℕ → ℕ) (tests : ℕ) (goal : Goal) (columns : ℕ)
   rowsTo a = joined always (maskRow out tests goal columns) a
 
   rows-more : (a : ℕ) → rowsTo (a + 1) ≡ rowsTo a ++ maskRow out tests goal columns a
-  unfolding rowsTo always
-  rows-more a = joined-yes always (maskRow out tests goal columns) a refl
+  unfolding rowsTo
+  rows-more a = joined-yes always (maskRow out tests goal columns) a (always-true a)
 
   pub rows-none : rowsTo 0 ≡ []
   unfolding rowsTo
@@ -75,12 +75,10 @@ module _ (out : ℕ → ℕ → ℕ) (tests : ℕ) (goal : Goal) (columns : ℕ)
 
 module _ (tb : Table) (goal : Goal) (r : Masks) (f : Filled tb goal r) where
   pub filled-take : take (r .count) (r .list) ≡ masksOf tb goal
-  unfolding onto
-  filled-take = rw (f .list, f .count) (take-append-seam (masksOf tb goal) (drop (length (masksOf tb goal)) noMasks))
+  filled-take = rw (f .list, f .count) (onto-front (masksOf tb goal) noMasks)
 
   pub filled-fits : r .count ≤ length (r .list)
-  unfolding onto
-  filled-fits = rw (f .list, f .count, length-append) (omega arith)
+  filled-fits = rw (f .list, f .count) (onto-room (masksOf tb goal) noMasks)
 
   pub filled-part : r .count ≡ length (take (r .count) (r .list))
   filled-part = f .count ∙ ap length (sym filled-take)

@@ -1,11 +1,11 @@
 -- What holds of every mask of a goal, and what holds of every goal pair that counts. Assumes nothing.
 use mathlib.Core.Bool.{Bool, true, false}
 use mathlib.Core.Path.{_≡_, refl, sym, ap, _∙_}
-use Prim.Native.Nat.{ℕ, zero, suc, _^_, _<_}
+use Prim.Native.Nat.{ℕ, _^_, _<_}
 use native.Mathlib.Omega.{arith}
 use borrow.Author.Tests.{ltb-true, lt-ltb, eqb-true, eq-eqb, ne-eqb}
 use lib.Dec.{eqb, ltb}
-use Rattle.folds.specs.Fold.{single, always}
+use Rattle.folds.specs.Fold.{always}
 use Rattle.folds.proofs.Bools.{clash, both-true, both-left, both-right}
 use Rattle.sets.specs.Sets.{bit, Shares}
 use Rattle.sets.proofs.Bits.{bit-zero, some-bit}
@@ -17,7 +17,8 @@ use Rattle.terms.specs.Columns.{agrees}
 use Rattle.terms.specs.Terms.{TestOf, Separates, GoalPair, Counts, Reaches}
 use Rattle.cover.specs.Masks.{Hits, goalPair, differs, maskOf, goalMask, counts, maskRow, masksOf}
 use Rattle.sets.proofs.Collect.{set-lt, set-below, set-has, set-in}
-use Rattle.folds.proofs.All.{AllOf, joined-all, joined-at}
+use Rattle.folds.proofs.All.{AllOf, joined-all, joined-at, gather-all, gather-at}
+use Rattle.folds.proofs.Gather.{always-true}
 
 -- ---- the mask of a pair
 
@@ -85,25 +86,20 @@ module _ (tb : Table) (goal : Goal) where
   module _ (Q : ℕ → Type 0) where
     -- what holds of the mask of every goal pair that counts holds of every mask
     pub masks-all : ((a b : ℕ) → GoalPair goal tb a b → Counts tb a b → Q (pairMask tb a b)) → AllOf Q (masksOf tb goal)
-    unfolding masksOf maskRow single
+    unfolding masksOf maskRow
     masks-all h = joined-all Q always (maskRow (outputAt tb) (tb .tests) goal (columns tb)) (columns tb)
-        (λ a l w. joined-all Q (counts (outputAt tb) (tb .tests) goal a) (single (goalMask (outputAt tb) (tb .tests) goal a)) (columns tb) (λ b m c. one a b m c))
-      where
-        one : (a b : ℕ) → b < columns tb → counts (outputAt tb) (tb .tests) goal a b ≡ true → AllOf Q (single (goalMask (outputAt tb) (tb .tests) goal a) b)
-        one a b m c zero l =
-            let w = counted a b c in
-            rw (pair-mask a b (w .0)) (h a b (pair-of goal tb a b (w .0) m) (mask-counts tb a b (w .1)))
-        one a b m c (suc k) l = absurd (omega arith)
+        (λ a l w. gather-all Q (counts (outputAt tb) (tb .tests) goal a) (goalMask (outputAt tb) (tb .tests) goal a) (columns tb) (λ b m c.
+        let w = counted a b c in
+        rw (pair-mask a b (w .0)) (h a b (pair-of goal tb a b (w .0) m) (mask-counts tb a b (w .1)))))
 
     -- and the other way round
     pub masks-at : AllOf Q (masksOf tb goal) → (a b : ℕ) → GoalPair goal tb a b → Counts tb a b → Q (pairMask tb a b)
-    unfolding masksOf maskRow single always
+    unfolding masksOf maskRow
     masks-at h a b g c =
         let p = of-pair goal tb a b g in
         let l = pair-below goal tb a b g in
-        let row = joined-at Q always (maskRow (outputAt tb) (tb .tests) goal (columns tb)) (columns tb) h a (l .0) refl in
-        let m = joined-at Q (counts (outputAt tb) (tb .tests) goal a) (single (goalMask (outputAt tb) (tb .tests) goal a)) (columns tb) row b (l .1) (counting a b p (counts-mask tb a b c)) in
-        rw (pair-mask a b p) at (m 0 (omega arith))
+        let row = joined-at Q always (maskRow (outputAt tb) (tb .tests) goal (columns tb)) (columns tb) h a (l .0) (always-true a) in
+        rw (pair-mask a b p) at (gather-at Q (counts (outputAt tb) (tb .tests) goal a) (goalMask (outputAt tb) (tb .tests) goal a) (columns tb) row b (l .1) (counting a b p (counts-mask tb a b c)))
 
 -- ---- a set hits every mask exactly when it separates every goal pair that counts
 

@@ -7,7 +7,7 @@ use Prim.Native.Nat.{ℕ, zero, suc, _<_}
 use native.Mathlib.Nat.{le-of-suc-le-suc}
 use native.Mathlib.Omega.{arith}
 use lib.ListN.{length, getD}
-use Rattle.folds.specs.Fold.{pick, joined}
+use Rattle.folds.specs.Fold.{pick, joined, single, gather}
 use Rattle.folds.proofs.Bools.{clash}
 use Rattle.folds.proofs.Below.{below-cases}
 
@@ -51,3 +51,18 @@ module _ (Q : ℕ → Type 0) where
         go : (b : Bool) → b ≡ true → AllOf Q (pick b (g n) []) → i ≡ n → Q (getD (g i) k 0)
         go true t w q = rw q (w k (rw q at m))
         go false t w q = clash false t refl
+
+  -- ---- single values
+
+  module _ (p : ℕ → Bool) (f : ℕ → ℕ) (n : ℕ) where
+    pub gather-all : ((i : ℕ) → i < n → p i ≡ true → Q (f i)) → AllOf Q (gather p f n)
+    unfolding single
+    gather-all h = joined-all p (single f) n (λ i l e. one i (h i l e))
+      where
+        one : (i : ℕ) → Q (f i) → AllOf Q (f i ∷ [])
+        one i q zero l = q
+        one i q (suc k) l = absurd (omega arith)
+
+    pub gather-at : AllOf Q (gather p f n) → (i : ℕ) → i < n → p i ≡ true → Q (f i)
+    unfolding single
+    gather-at h i l e = joined-at p (single f) n h i l e 0 (omega arith)

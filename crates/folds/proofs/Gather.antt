@@ -11,7 +11,7 @@ use lib.Seq.{getD-at}
 use Rattle.folds.specs.Fold.{count, joined, single, gather, always, listed, onto}
 use Rattle.folds.proofs.Below.{below-cases}
 use Rattle.folds.proofs.Count.{count-less}
-use Rattle.folds.proofs.Onto.{onto-none, onto-store, onto-full}
+use Rattle.folds.proofs.Onto.{onto-none, onto-get, onto-store, onto-full}
 use Rattle.folds.proofs.Joined.{joined-alike, joined-none, joined-yes, joined-no, joined-rows}
 
 module _ (p : ℕ → Bool) (f : ℕ → ℕ) where
@@ -110,5 +110,4 @@ module _ (f : ℕ → ℕ) where
       (below-cases i n h)
 
   pub listed-at : (n i : ℕ) (d : List ℕ) → i < n → getD (onto (listed f n) d) i 0 ≡ f i
-  unfolding onto
-  listed-at n i d h = List·getD-append (listed f n) _ 0 i (omega (arith, listed-length n)) ∙ listed-get n i h
+  listed-at n i d h = onto-get (listed f n) d i (omega (arith, listed-length n)) ∙ listed-get n i h

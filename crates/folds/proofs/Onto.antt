@@ -5,8 +5,8 @@ use Prim.Native.Nat.{ℕ, _+_, _-_, _^_, _≤_, _<_}
 use native.Mathlib.Nat.{lt-of-le-of-lt}
 use native.Mathlib.Numerals.{add-one}
 use native.Mathlib.Omega.{arith}
-use lib.ListN.{length, take, drop, set, length-append, length-drop, length-take, length-set}
-use lib.Seq.{take-length, drop-drop, drop-cons, set-append-seam, append-snoc, drop-length, take-append-seam, drop-append-seam}
+use lib.ListN.{length, getD, take, drop, set, length-append, length-drop, length-take, length-set, List·getD-append}
+use lib.Seq.{take-append-le, drop-append-le, take-length, drop-drop, drop-cons, set-append-seam, append-snoc, drop-length, take-append-seam, drop-append-seam}
 use mir.Syntax.{w64}
 use mir.Val.{Fits}
 use Rattle.folds.specs.Fold.{onto}
@@ -23,6 +23,25 @@ onto-length xs d h = simp (length-append, length-drop) (omega arith)
 pub onto-full : (xs d : List ℕ) → length xs ≡ length d → onto xs d ≡ xs
 unfolding onto
 onto-full xs d h = rw (h, drop-length, append-nil)
+
+-- what is written is read back: all of it, a part, an entry
+pub onto-front : (xs d : List ℕ) → take (length xs) (onto xs d) ≡ xs
+unfolding onto
+onto-front xs d = take-append-seam xs (drop (length xs) d)
+
+pub onto-slice : (xs d : List ℕ) (m k : ℕ) → m + k ≤ length xs → take k (drop m (onto xs d)) ≡ take k (drop m xs)
+unfolding onto
+onto-slice xs d m k h =
+    let l : k ≤ length (drop m xs) = simp length-drop (omega arith) in
+    rw (drop-append-le m xs (drop (length xs) d) (omega arith), take-append-le k (drop m xs) (drop (length xs) d) l)
+
+pub onto-get : (xs d : List ℕ) (i : ℕ) → i < length xs → getD (onto xs d) i 0 ≡ getD xs i 0
+unfolding onto
+onto-get xs d i h = List·getD-append xs (drop (length xs) d) 0 i h
+
+pub onto-room : (xs d : List ℕ) → length xs ≤ length (onto xs d)
+unfolding onto
+onto-room xs d = rw length-append (omega arith)
 
 -- a store right behind what is written
 pub onto-store : (xs d : List ℕ) (v : ℕ) → length xs < length d → set (onto xs d) (length xs) v ≡ onto (xs ++ (v ∷ [])) d

@@ -16,21 +16,26 @@ use Rattle.sets.proofs.Bits.{bit-high, bit-below, has-no, top-lt, top-b
 
 -- ---- one test more at the top
 
+pub with-in : (s t : ℕ) → withTest s t true ≡ s + 2 ^ t
+unfolding withTest
+with-in s t = refl
+
+pub with-out : (s t : ℕ) → withTest s t false ≡ s
+unfolding withTest
+with-out s t = add-zero s
+
 module _ (s t : ℕ) (h : s < 2 ^ t) where
   with-lt : (b : Bool) → withTest s t b < 2 ^ suc t
-  unfolding withTest
-  with-lt true = top-lt s t h
-  with-lt false = omega (arith, pow-suc 2 t)
+  with-lt true = rw with-in (top-lt s t h)
+  with-lt false = rw with-out (omega (arith, pow-suc 2 t))
 
   with-at : (b : Bool) → bit (withTest s t b) t ≡ pick b 1 0
-  unfolding withTest
-  with-at true = top-bit s t h
-  with-at false = rw add-zero (bit-high s t t h (omega arith))
+  with-at true = rw with-in (top-bit s t h)
+  with-at false = rw with-out (bit-high s t t h (omega arith))
 
   with-below : (b : Bool) (i : ℕ) → i < t → bit (withTest s t b) i ≡ bit s i
-  unfolding withTest
-  with-below true i l = top-below s t i h l
-  with-below false i l = rw add-zero
+  with-below true i l = rw with-in (top-below s t i h l)
+  with-below false i l = rw with-out
 
 -- a one shifted to test t, in a number of k bits
 pub one-shl : (k t : ℕ) → t < k → 1 * 2 ^ t % 2 ^ k ≡ 2 ^ t
@@ -111,8 +116,7 @@ module _ (p : ℕ → Bool) where
 
   -- the set stays as it is where test(i) fails
   pub set-on : (i s s′ : ℕ) (r : Bool) → s ≡ setOf p i → r ≡ p i → r ≡ false → s′ ≡ s → s′ ≡ setOf p (i + 1)
-  unfolding withTest
-  set-on i s s′ r e q t g = set-turn i s s′ r e q (g ∙ rw (t, add-zero))
+  set-on i s s′ r e q t g = set-turn i s s′ r e q (g ∙ rw (t, with-out))
 
 -- ---- a loop `while i < n { if test(i) { set += 1 << i; } i += 1; } set`, in a number of k bits
 
@@ -121,7 +125,6 @@ module _ (k : ℕ) (p : ℕ → Bool) (i s : ℕ) (w : i < k) (e : s ≡ setOf p
   set-fits = rw (one-shl k i w) (top-fits k s i w (set-room p i s e))
 
   pub set-up : (s′ : ℕ) (r : Bool) → r ≡ p i → r ≡ true → s′ ≡ s + 1 * 2 ^ i % 2 ^ k → s′ ≡ setOf p (i + 1)
-  unfolding withTest
-  set-up s′ r q t g = set-turn p i s s′ r e q (g ∙ rw (one-shl k i w, t))
+  set-up s′ r q t g = set-turn p i s s′ r e q (g ∙ rw (one-shl k i w, t, with-in))
 
 pub ruleset collects = (set-start, set-turn, set-end, set-room, set-on)

@@ -1,11 +1,12 @@
 -- Laws of a set's weight. Assumes nothing.
-use mathlib.Core.Path.{_≡_, refl, sym, _∙_}
+use mathlib.Core.Path.{_≡_, refl, sym, ap, _∙_}
 use mathlib.Core.Logic.{⊎-elim}
 use Prim.Native.Nat.{ℕ, zero, suc, _+_, _^_, _≤_, _<_}
 use native.Mathlib.Nat.{one-mul, zero-mul, add-mul, mul-le-mul-right}
+use native.Mathlib.Numerals.{add-one}
 use native.Mathlib.Omega.{arith}
-use Rattle.folds.specs.Fold.{pick, total, count}
-use Rattle.folds.proofs.Count.{count-le}
+use Rattle.folds.specs.Fold.{total, count}
+use Rattle.folds.proofs.Count.{count-none, count-yes, count-no, count-le}
 use Rattle.folds.proofs.Total.{total-same, total-apart, total-stays, total-none, total-more, total-two, total-gap}
 use Rattle.sets.specs.Sets.{bit, has, share, weight, one, size}
 use Rattle.sets.proofs.Bits.{bit-cases, bit-high, has-yes, has-no, top-bit, top-below, top-lt}
@@ -20,7 +21,7 @@ module _ (w : ℕ → ℕ) where
   unfolding share
   share-out s t e = rw (e, zero-mul)
 
-  share-same : (s s' t : ℕ) → bit s t ≡ bit s' t → share w s t ≡ share w s' t
+  pub share-same : (s s' t : ℕ) → bit s t ≡ bit s' t → share w s t ≡ share w s' t
   unfolding share
   share-same s s' t e = rw e
 
@@ -76,17 +77,24 @@ module _ (w : ℕ → ℕ) where
   weight-more a b j l h o e =
       total-gap (share w a) (share w b) 24 j (w j) l (λ i. share-le a b i (h i)) (omega (arith, share-out a j o, share-in b j e))
 
--- where each test weighs 1 the weight is the number of tests
-pub weight-counts : (s n : ℕ) → total (share one s) n ≡ count (has s) n
-unfolding total count
-weight-counts s zero = refl
-weight-counts s (suc n) = ⊎-elim
-    (λ e. let h : pick {A = ℕ} (has s n) 1 0 ≡ 0 = rw (has-no s n e) in omega (arith, weight-counts s n, share-out one s n e))
-    (λ e. let h : pick {A = ℕ} (has s n) 1 0 ≡ 1 = rw (has-yes s n e) in omega (arith, weight-counts s n, share-in one s n e, unit n))
+-- ---- each test weighs 1
+
+pub one-is : (t : ℕ) → one t ≡ 1
+unfolding one
+one-is t = refl
+
+pub one-positive : (t : ℕ) → 0 < one t
+one-positive t = omega (arith, one-is t)
+
+-- the weight is the number of tests
+weight-counts : (s n : ℕ) → total (share one s) n ≡ count (has s) n
+weight-counts s zero = total-none (share one s) ∙ sym (count-none (has s))
+weight-counts s (suc n) =
+    let q : count (has s) (n + 1) ≡ count (has s) (suc n) = ap (count (has s)) (add-one n) in
+    ⊎-elim
+    (λ e. omega (arith, weight-counts s n, total-more (share one s) n, share-out one s n e, count-no (has s) n (has-no s n e)))
+    (λ e. omega (arith, weight-counts s n, total-more (share one s) n, share-in one s n e, one-is n, count-yes (has s) n (has-yes s n e)))
     (bit-cases s n)
-  where
-    unit : (n : ℕ) → one n ≡ 1
-    unit n = unfold one in refl
 
 pub size-counts : (n s : ℕ) → n ≤ 24 → s < 2 ^ n → size s ≡ count (has s) n
 size-counts n s l h = weight-below one n s l h ∙ weight-counts s n
