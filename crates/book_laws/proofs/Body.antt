@@ -10,17 +10,17 @@ use lib.ListN.{length, length-append}
 use lib.Seq.{getD-set-same, getD-set-other}
 use Rattle.folds.specs.Fold.{joined, always}
 use Rattle.folds.proofs.Joined.{joined-none, joined-yes, joined-same, joined-alike, joined-stop, joined-most}
+use Rattle.folds.proofs.Gather.{always-true}
 use Rattle.table.specs.Table.{outputAt}
 use Rattle.table.specs.WellFormed.{WellFormed}
 use Rattle.table.specs.declared.Table.{Table}
+use Rattle.table.proofs.Stored.{cell-here, cell-there}
 use Rattle.book.specs.BookOf.{testBytes, faultBytes, responseBytes, answersWrong, responsesOf, bookOf}
 use Rattle.book.specs.Grow.{withTest, withFault, withResponse}
 use Rattle.book.specs.Sound.{orderOf}
 use Rattle.book.specs.Step.{recordBytes}
 use Rattle.book.specs.declared.Record.the-variants.{Test, Fault, Response, End}
-use Rattle.table.proofs.Stored.{cell-here, cell-there}
 use Rattle.book_laws.proofs.Grown.{Long, filled-there}
-use Rattle.folds.proofs.Gather.{always-true}
 use Rattle.book_laws.proofs.Stages.{Correct}
 
 module _ (tb : Table) where

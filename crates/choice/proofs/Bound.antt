@@ -11,8 +11,8 @@ use Rattle.folds.proofs.Below.{lt-or-ge}
 use Rattle.sets.specs.Sets.{bit, weight}
 use Rattle.sets.proofs.Bits.{from-out, from-in, bit-low, bit-high, bit-zero, bit-below}
 use Rattle.sets.proofs.Shared.{bit-and, bit-or, shares-not}
-use Rattle.choice.specs.Search.{Open, RestOf, OneMore, NeedsMore}
 use Rattle.sets.proofs.Weight.{weight-two, weight-more}
+use Rattle.choice.specs.Search.{Open, RestOf, OneMore, NeedsMore}
 
 -- the kept tests from t on
 pub rest-of : (keep t : ℕ) → keep < 2 ^ 32 → RestOf keep t (keep / 2 ^ t * 2 ^ t % 4294967296)

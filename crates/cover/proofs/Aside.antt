@@ -12,21 +12,21 @@ use lib.Dec.{ltb}
 use lib.ListN.{length, getD}
 use Rattle.folds.proofs.Bools.{clash, both-true, both-left, both-right, both-cases, either-left, either-right, either-second}
 use Rattle.folds.proofs.Every.{every-at, every-of}
+use Rattle.folds.proofs.Some.{some-of, some-at}
+use Rattle.folds.proofs.All.{AllOf}
 use Rattle.sets.specs.Sets.{bit, has}
+use Rattle.sets.specs.Collect.{setOf}
 use Rattle.sets.proofs.Bits.{bit-cases, bit-out, has-yes, has-no, has-bit}
+use Rattle.sets.proofs.Collect.{set-below, set-has, set-in, set-others}
+use Rattle.sets.proofs.Shared.{only-in, only-one, only-of}
 use Rattle.table.specs.declared.Goal.{Goal}
 use Rattle.table.specs.declared.Goal.the-variants.{Detect}
 use Rattle.table.specs.declared.Table.{Table}
 use Rattle.terms.specs.Terms.{TestOf, GoalPair, Counts, Covers, Aside, Kept, Essential}
-use Rattle.sets.specs.Collect.{setOf}
 use Rattle.cover.specs.Masks.{masksOf}
 use Rattle.cover.specs.Kept.{hasAt, followsAt, follows, isAt, maskIs, used, covers, outdoneBy, outdone, kept, lone}
 use Rattle.cover.specs.Answer.{keptSet, loneSet, Exactly, AsideTest}
-use Rattle.sets.proofs.Collect.{set-below, set-has, set-in, set-others}
-use Rattle.folds.proofs.Some.{some-of, some-at}
-use Rattle.sets.proofs.Shared.{only-in, only-one, only-of}
 use Rattle.cover.proofs.Goals.{pairMask, mask-lt, mask-separates, mask-in, masks-all, masks-at}
-use Rattle.folds.proofs.All.{AllOf}
 
 -- ---- what the tests over masks say
 

@@ -10,9 +10,12 @@ use Rattle.folds.proofs.Total.{total-more, total-grows}
 use Rattle.folds.proofs.Gather.{always-true}
 use Rattle.folds.proofs.Onto.{onto-length, onto-front, onto-room, onto-behind}
 use Rattle.folds.proofs.Joined.{joined-none, joined-yes}
+use Rattle.sets.specs.Collect.{setOf}
 use Rattle.table.specs.declared.Goal.{Goal}
 use Rattle.table.specs.declared.Table.{Table}
 use Rattle.cover.specs.declared.inner.Masks.{Masks}
+use Rattle.cover.specs.Answer.{keptSet}
+use Rattle.cover.specs.Kept.{kept}
 use Rattle.cover.specs.Masks.{maskRow, masksOf}
 use Rattle.cover.specs.Filled.{noMasks, Filled}
 use Rattle.cover.proofs.Masks.{row-few}
@@ -82,3 +85,8 @@ module _ (tb : Table) (goal : Goal) (r : Masks) (f : Filled tb goal r) where
 
   pub filled-part : r .count ≡ length (take (r .count) (r .list))
   filled-part = f .count ∙ ap length (sym filled-take)
+
+  -- the kept tests by them are those of the goal
+  pub filled-kept : (keep : ℕ) → keep ≡ setOf (kept (take (r .count) (r .list)) (tb .tests)) (tb .tests) → keep ≡ keptSet tb goal
+  unfolding keptSet
+  filled-kept keep e = rw (← filled-take) e

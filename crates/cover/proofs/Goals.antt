@@ -7,8 +7,11 @@ use borrow.Author.Tests.{ltb-true, lt-ltb, eqb-true, eq-eqb, ne-eqb}
 use lib.Dec.{eqb, ltb}
 use Rattle.folds.specs.Fold.{always}
 use Rattle.folds.proofs.Bools.{clash, both-true, both-left, both-right}
+use Rattle.folds.proofs.All.{AllOf, joined-all, joined-at, gather-all, gather-at}
+use Rattle.folds.proofs.Gather.{always-true}
 use Rattle.sets.specs.Sets.{bit, Shares}
 use Rattle.sets.proofs.Bits.{bit-zero, some-bit}
+use Rattle.sets.proofs.Collect.{set-lt, set-below, set-has, set-in}
 use Rattle.table.specs.Table.{outputAt, columns}
 use Rattle.table.specs.declared.Goal.{Goal}
 use Rattle.table.specs.declared.Goal.the-variants.{Detect, Diagnose}
@@ -16,9 +19,6 @@ use Rattle.table.specs.declared.Table.{Table}
 use Rattle.terms.specs.Columns.{agrees}
 use Rattle.terms.specs.Terms.{TestOf, Separates, GoalPair, Counts, Reaches}
 use Rattle.cover.specs.Masks.{Hits, goalPair, differs, maskOf, goalMask, counts, maskRow, masksOf}
-use Rattle.sets.proofs.Collect.{set-lt, set-below, set-has, set-in}
-use Rattle.folds.proofs.All.{AllOf, joined-all, joined-at, gather-all, gather-at}
-use Rattle.folds.proofs.Gather.{always-true}
 
 -- ---- the mask of a pair
 

@@ -7,12 +7,12 @@ use lib.Dec.{eqb, ltb}
 use lib.ListN.{length, getD}
 use Rattle.folds.specs.Fold.{pick, both, joined, gather, always}
 use Rattle.sets.specs.Sets.{Shares}
+use Rattle.sets.specs.Collect.{setOf}
 use Rattle.table.specs.Table.{outputAt, columns}
 use Rattle.table.specs.declared.Goal.{Goal}
 use Rattle.table.specs.declared.Goal.the-variants.{Detect, Diagnose}
 use Rattle.table.specs.declared.Table.{Table}
 use Rattle.terms.specs.Columns.{agrees}
-use Rattle.sets.specs.Collect.{setOf}
 
 -- s shares a test with every mask
 abbrev pub Hits : List ℕ → ℕ → Type 0

@@ -25,25 +25,17 @@ module _ (w : ℕ → ℕ) where
   unfolding share
   share-same s s' t e = rw e
 
+  -- a set with one test put in or taken out differs by what that test adds
+  weight-flip : (s t : ℕ) → t < 24 → weight w s + share w (flip s t) t ≡ weight w (flip s t) + share w s t
+  weight-flip s t l = total-apart (share w s) (share w (flip s t)) 24 t l (λ i ne. share-same s (flip s t) i (sym (flip-other s t i ne)))
+
   -- taking out test t makes the set lighter by that test's weight
   pub weight-out : (s t : ℕ) → t < 24 → bit s t ≡ 1 → weight w (flip s t) + w t ≡ weight w s
-  weight-out s t l e =
-      omega (
-        arith,
-        total-apart (share w s) (share w (flip s t)) 24 t l (λ i ne. share-same s (flip s t) i (sym (flip-other s t i ne))),
-        share-in s t e,
-        share-out (flip s t) t (flip-out s t e),
-      )
+  weight-out s t l e = omega (arith, weight-flip s t l, share-in s t e, share-out (flip s t) t (flip-out s t e))
 
   -- putting in test t makes the set heavier by that test's weight
   pub weight-in : (s t : ℕ) → t < 24 → bit s t ≡ 0 → weight w (flip s t) ≡ weight w s + w t
-  weight-in s t l e =
-      omega (
-        arith,
-        total-apart (share w s) (share w (flip s t)) 24 t l (λ i ne. share-same s (flip s t) i (sym (flip-other s t i ne))),
-        share-out s t e,
-        share-in (flip s t) t (flip-in s t e),
-      )
+  weight-in s t l e = omega (arith, weight-flip s t l, share-out s t e, share-in (flip s t) t (flip-in s t e))
 
   -- the tests from n on add nothing to a set below 2 ^ n
   pub weight-below : (n s : ℕ) → n ≤ 24 → s < 2 ^ n → weight w s ≡ total (share w s) n

@@ -14,6 +14,8 @@ use Rattle.folds.proofs.Below.{lt-or-ge}
 use Rattle.folds.proofs.Count.{count-less, count-mono, count-reaches}
 use Rattle.folds.proofs.Gather.{gather-length, gather-get}
 use Rattle.folds.proofs.Joined.{joined-none, joined-no}
+use Rattle.folds.proofs.Bools.{pick-ap}
+use Rattle.folds.proofs.Onto.{onto-get}
 use Rattle.sets.specs.Sets.{has, within}
 use Rattle.sets.proofs.Bits.{bit-zero, has-no, within-of}
 use Rattle.table.specs.Answers.{verdictNumber}
@@ -25,8 +27,6 @@ use Rattle.terms.specs.Columns.{outputOf}
 use Rattle.terms.specs.Terms.{signature}
 use Rattle.suspects.specs.Suspects.{unlisted, itself, suspect, foundUnder, refusedBy, suspectsOf}
 use Rattle.suspects.proofs.Answers.{suspect-same, same-suspect}
-use Rattle.folds.proofs.Bools.{pick-ap}
-use Rattle.folds.proofs.Onto.{onto-get}
 
 -- ---- the list of the numbers that have p
 

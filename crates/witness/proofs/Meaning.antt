@@ -18,8 +18,6 @@ use Rattle.folds.proofs.Count.{count-yes, count-mono, count-less}
 use Rattle.folds.proofs.First.{first-below, first-has, first-le, first-same}
 use Rattle.folds.proofs.Joined.{joined-part, joined-mono, rows-at}
 use Rattle.folds.proofs.Gather.{gather-length, gather-get}
-use Rattle.lent.specs.Lent.{setNumber, WritesOnto}
-use Rattle.lent.proofs.Lent.{writes-byte}
 use Rattle.sets.specs.Sets.{has}
 use Rattle.table.specs.Table.{outputAt, columns}
 use Rattle.table.specs.declared.Table.{Table}
@@ -27,6 +25,8 @@ use Rattle.table.specs.declared.Written.the-variants.{Bytes}
 use Rattle.terms.specs.Columns.{agrees, alike, lowest, lowestOf, classNumber, outputsUnder}
 use Rattle.terms.specs.Terms.{classOf, classCount}
 use Rattle.terms_laws.proofs.Classes.{alike-at, alike-sym, lowest-le, lowest-alike, lowest-of, class-lowest, signature-of, signature-at}
+use Rattle.lent.specs.Lent.{setNumber, WritesOnto}
+use Rattle.lent.proofs.Lent.{writes-byte}
 use Rattle.witness.specs.Witness.{separates, lowestTest, witnessOf, above, witnesses, sheetUnder, sheetOf}
 use Rattle.witness.proofs.Rows.{witness-found, witness-none, above-count}
 use Rattle.witness.proofs.Size.{rowsTo, rows-sum, sheet-size}
