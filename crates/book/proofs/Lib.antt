@@ -1,4 +1,3 @@
-pub mod Places
 pub mod Judged
 pub mod Steps
 pub mod Loop

@@ -3,10 +3,9 @@ use mathlib.Core.List.{List}
 use mathlib.Core.Path.{_≡_, refl}
 use Prim.Native.Nat.{ℕ, zero, suc, _+_, _-_, _<_, _≤_}
 use native.Mathlib.Omega.{arith}
-use lib.Dec.{lit≤}
 use lib.ListN.{length}
-use Rattle.table.specs.Table.{emptyTable}
 use Rattle.table.specs.declared.Refusal.{Refusal}
+use Rattle.table.proofs.Empty.{empty-formed}
 use Rattle.book.specs.declared.Outcome.the-variants.{Given, Accepted, Refused}
 use Rattle.book.specs.declared.Record.{Record}
 use Rattle.book.specs.declared.SoFar.{SoFar}
@@ -24,8 +23,7 @@ pub record Reads (book : List ℕ) (place : ℕ) (sofar : SoFar) : Type 0 where
   pub same : readFrom (suc fuel) book place sofar ≡ readBook book
 
 pub start-counts : CountsFit start
-unfolding emptyTable
-start-counts = record { tests = lit≤ tt; faults = lit≤ tt }
+start-counts = record { tests = empty-formed .tests-fit; faults = empty-formed .faults-fit }
 
 pub begins : (book : List ℕ) (sofar : SoFar) → sofar ≡ start → Reads book 0 sofar
 unfolding readBook

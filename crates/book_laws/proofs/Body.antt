@@ -9,18 +9,18 @@ use borrow.Author.Tests.{eq-eqb, ne-eqb}
 use lib.ListN.{length, length-append}
 use lib.Seq.{getD-set-same, getD-set-other}
 use Rattle.folds.specs.Fold.{joined, always}
-use Rattle.folds.proofs.Joined.{joined-none, joined-yes, joined-same}
+use Rattle.folds.proofs.Joined.{joined-none, joined-yes, joined-same, joined-alike, joined-stop, joined-most}
+use Rattle.folds.proofs.Gather.{always-true}
 use Rattle.table.specs.Table.{outputAt}
 use Rattle.table.specs.WellFormed.{WellFormed}
 use Rattle.table.specs.declared.Table.{Table}
+use Rattle.table.proofs.Stored.{cell-here, cell-there}
 use Rattle.book.specs.BookOf.{testBytes, faultBytes, responseBytes, answersWrong, responsesOf, bookOf}
 use Rattle.book.specs.Grow.{withTest, withFault, withResponse}
 use Rattle.book.specs.Sound.{orderOf}
 use Rattle.book.specs.Step.{recordBytes}
 use Rattle.book.specs.declared.Record.the-variants.{Test, Fault, Response, End}
-use Rattle.book_laws.proofs.Cells.{cell-here, cell-there}
 use Rattle.book_laws.proofs.Grown.{Long, filled-there}
-use Rattle.book_laws.proofs.Rows.{always-true, joined-alike, joined-stop, joined-most}
 use Rattle.book_laws.proofs.Stages.{Correct}
 
 module _ (tb : Table) where
@@ -146,7 +146,7 @@ module _ (tb : Table) (long : Long tb) (w : WellFormed tb) (t f x : ℕ) (h : t 
   row-kept g n m l ne =
       joined-alike (answersWrong new g) (answersWrong tb g) (responseBytes new g) (responseBytes tb g) n
       (λ u v. rw (response-there u 0 (omega arith) (omega arith) (λ e q. omega arith), kept g n u m l ne v))
-      (λ u v. rw (kept g n u m l ne v))
+      (λ u v w. rw (kept g n u m l ne v))
 
   here-wrong : (outputAt tb t 0 ≡ x → ⊥) → answersWrong new f t ≡ true
   unfolding answersWrong

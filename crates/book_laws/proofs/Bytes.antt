@@ -7,9 +7,9 @@ use Rattle.folds.specs.Fold.{pick, joined, always}
 use Rattle.table.specs.Table.{outputAt}
 use Rattle.table.specs.WellFormed.{WellFormed, OfType}
 use Rattle.table.specs.declared.Table.{Table}
+use Rattle.table.proofs.Stored.{cell-byte}
 use Rattle.book.specs.BookOf.{testBytes, faultBytes, responseBytes, answersWrong, responsesOf, bookOf}
 use Rattle.book.specs.Given.{Bytes}
-use Rattle.book_laws.proofs.Cells.{cell-byte}
 
 -- each byte by itself
 abbrev Each : List ℕ → Type 0

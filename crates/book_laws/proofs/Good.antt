@@ -9,12 +9,14 @@ use native.Mathlib.Omega.{arith}
 use borrow.Author.Tests.{ltb-false, leb-false, eqb-true, eqb-false, not-false}
 use lib.Dec.{eqb}
 use lib.ListN.{length, getD, take, length-take, length-append}
+use Rattle.folds.specs.Fold.{always}
 use Rattle.folds.proofs.Below.{below-cases}
 use Rattle.folds.proofs.Joined.{joined-none}
-use Rattle.folds.specs.Fold.{always}
 use Rattle.table.specs.Table.{emptyTable, outputAt}
 use Rattle.table.specs.WellFormed.{WellFormed, OfType}
 use Rattle.table.specs.declared.Table.{Table}
+use Rattle.table.proofs.Stored.{cell-here, cell-there}
+use Rattle.table.proofs.Empty.{empty-formed, empty-typed}
 use Rattle.book.specs.BookOf.{testBytes, faultBytes, responsesOf, bookOf}
 use Rattle.book.specs.Given.{Bytes, Reached, begun, read}
 use Rattle.book.specs.Grow.{withFault, withResponse}
@@ -27,8 +29,7 @@ use Rattle.book.specs.declared.Stage.{Stage}
 use Rattle.book.specs.declared.Stage.the-variants.{Tests, Faults, Responses, Ended}
 use Rattle.book.specs.declared.Stepped.{Stepped}
 use Rattle.book.proofs.Steps.{Gives, test, fault, response, ending, Steps, refuses, accepts, gives, steps}
-use Rattle.book_laws.proofs.Cells.{cell-here, cell-there}
-use Rattle.book_laws.proofs.Grown.{Long, long-of, filled-here, filled-there, empty-formed, empty-typed, test-formed, fault-formed, response-formed, test-long, fault-long, response-long, test-typed, fault-typed, response-typed}
+use Rattle.book_laws.proofs.Grown.{Long, long-of, filled-here, filled-there, test-formed, fault-formed, response-formed, test-long, fault-long, response-long, test-typed, fault-typed, response-typed}
 use Rattle.book_laws.proofs.Stages.{Correct, Fits, no-fault, no-response, correct-on}
 use Rattle.book_laws.proofs.Body.{testsOf, faultsOf, wrongOf, bodyOf, book-body, body-most, body-test, body-fault, body-response}
 use Rattle.book_laws.proofs.Records.{recordOf, given-bytes, taken-on}

@@ -1,23 +1,22 @@
 -- Every table that the records build from the empty one is well formed. Assumes nothing.
-use mathlib.Core.Bool.{Bool, true, false, not}
+use mathlib.Core.Bool.{true}
 use mathlib.Core.List.{List}
 use mathlib.Core.Logic.{_⊎_, inl, inr, ⊎-elim}
 use mathlib.Core.Path.{_≡_, refl, sym, _∙_}
 use Prim.Native.Nat.{ℕ, zero, suc, _+_, _≤_, _<_}
 use native.Mathlib.Omega.{arith}
 use borrow.Author.Tests.{eq-eqb, eqb-true}
-use lib.Dec.{lit≤, eqb}
-use lib.ListN.{length, getD, set, length-set, length-replicate}
+use lib.ListN.{length, getD, set, length-set}
 use lib.Seq.{getD-set-same, getD-set-other}
-use Rattle.folds.specs.Fold.{both, every}
+use Rattle.folds.specs.Fold.{every}
 use Rattle.folds.proofs.Below.{below-cases}
-use Rattle.folds.proofs.Bools.{clash}
+use Rattle.folds.proofs.Bools.{both-no, no-both}
 use Rattle.folds.proofs.Every.{every-at, every-of}
-use Rattle.table.specs.Table.{placeOf, cellAt, emptyTable}
+use Rattle.table.specs.Table.{placeOf, cellAt}
 use Rattle.table.specs.WellFormed.{WellFormed, OfType}
 use Rattle.table.specs.declared.Table.{Table}
+use Rattle.table.proofs.Stored.{cell-here, cell-there, stored, stored-byte, cell-byte}
 use Rattle.book.specs.Grow.{withTest, filled, withFault, withResponse, differs}
-use Rattle.book_laws.proofs.Cells.{cell-here, cell-there, zero-label, zero-byte, zero-cell, stored, stored-byte}
 
 -- the arrays' lengths
 pub record Long (tb : Table) : Type 0 where
@@ -56,54 +55,22 @@ filled-here cells c (suc n) t l hc hn ht =
     (below-cases t n ht)
 
 filled-byte : (cells : List ℕ) (c n : ℕ) → ((k : ℕ) → getD cells k 0 < 256) → (k : ℕ) → getD (filled cells c n) k 0 < 256
-unfolding filled cellAt
+unfolding filled
 filled-byte cells c zero b k = b k
-filled-byte cells c (suc n) b k = stored-byte (filled cells c n) (placeOf n c) _ (b (placeOf n 0)) (filled-byte cells c n b) k
+filled-byte cells c (suc n) b k = stored-byte (filled cells c n) (placeOf n c) _ (cell-byte cells b n 0) (filled-byte cells c n b) k
 
 -- ---- a label that no fault has so far
 
 module _ (lines stuck : List ℕ) (l v n : ℕ) where
   pub new-label : every (differs lines stuck l v) n ≡ true → (f : ℕ) → f < n → getD lines f 0 ≡ l → getD stuck f 0 ≡ v → ⊥
   unfolding differs
-  new-label h f w p q = go (eqb (getD lines f 0) l) (eqb (getD stuck f 0) v) (every-at (differs lines stuck l v) n f h w) (eq-eqb _ _ p) (eq-eqb _ _ q)
-    where
-      go : (a b : Bool) → not (both a b) ≡ true → a ≡ true → b ≡ true → ⊥
-      go true true h p q = clash false h refl
-      go true false h p q = clash false q refl
-      go false b h p q = clash false p refl
+  new-label h f w p q = both-no _ _ (every-at (differs lines stuck l v) n f h w) (eq-eqb _ _ p) (eq-eqb _ _ q)
 
   pub label-new : ((f : ℕ) → f < n → getD lines f 0 ≡ l → getD stuck f 0 ≡ v → ⊥) → every (differs lines stuck l v) n ≡ true
   unfolding differs
-  label-new h = every-of (differs lines stuck l v) n (λ f w. go f w (eqb (getD lines f 0) l) (eqb (getD stuck f 0) v) refl refl)
-    where
-      go : (f : ℕ) → f < n → (a b : Bool) → eqb (getD lines f 0) l ≡ a → eqb (getD stuck f 0) v ≡ b → not (both a b) ≡ true
-      go f w true true p q = absurd (h f w (eqb-true _ _ p) (eqb-true _ _ q))
-      go f w true false p q = refl
-      go f w false b p q = refl
+  label-new h = every-of (differs lines stuck l v) n (λ f w. no-both _ _ (λ p q. h f w (eqb-true _ _ p) (eqb-true _ _ q)))
 
 -- ---- well formed
-
-pub empty-formed : WellFormed emptyTable
-unfolding emptyTable
-empty-formed = record {
-  tests-fit = lit≤ tt;
-  faults-fit = lit≤ tt;
-  stuck-fit = λ f h. absurd (omega arith);
-  distinct = λ f g h l p q. omega arith;
-  cells-clear = λ t c h l u. zero-cell t c;
-  labels-clear = λ f h l. (zero-label f, zero-label f);
-}
-
-pub empty-typed : OfType emptyTable
-unfolding emptyTable
-empty-typed = record {
-  cells-long = length-replicate {A = ℕ} 1464 0;
-  lines-long = length-replicate {A = ℕ} 60 0;
-  stuck-long = length-replicate {A = ℕ} 60 0;
-  cells-bytes = λ i. omega (arith, zero-byte i);
-  lines-bytes = λ f. omega (arith, zero-label f);
-  stuck-bytes = λ f. omega (arith, zero-label f);
-}
 
 module _ (tb : Table) (w : WellFormed tb) where
   pub test-formed : (x : ℕ) → tb .tests < 24 → WellFormed (withTest tb x)

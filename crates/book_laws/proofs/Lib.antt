@@ -1,6 +1,4 @@
-pub mod Cells
 pub mod Grown
-pub mod Rows
 pub mod Stages
 pub mod Body
 pub mod Records

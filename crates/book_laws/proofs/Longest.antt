@@ -10,20 +10,21 @@ use lib.ListN.{length, take, replicate, length-append, length-replicate, List·g
 use lib.Seq.{take-append-le}
 use Rattle.folds.specs.Fold.{listed, always}
 use Rattle.folds.proofs.Below.{lt-or-ge}
-use Rattle.folds.proofs.Gather.{listed-length, listed-get}
+use Rattle.folds.proofs.Gather.{listed-length, listed-get, always-true}
+use Rattle.folds.proofs.Joined.{joined-exact}
 use Rattle.table.specs.Table.{outputAt, lineOf}
 use Rattle.table.specs.WellFormed.{WellFormed, OfType}
 use Rattle.table.specs.declared.Reading.{Reading}
 use Rattle.table.specs.declared.Table.{Table}
 use Rattle.table.specs.declared.Verdict.the-variants.{Accepted}
+use Rattle.table.proofs.Stored.{cells-of}
+use Rattle.table.proofs.Empty.{zero-label}
 use Rattle.book.specs.BookOf.{testBytes, faultBytes, responseBytes, answersWrong, responsesOf, bookOf}
 use Rattle.book.specs.Given.{Bytes}
 use Rattle.book.specs.Reading.{readBook}
 use Rattle.book_laws.specs.Accepts.{Accepts}
 use Rattle.book_laws.proofs.Books.{book-accepts, accepted-most}
 use Rattle.book_laws.proofs.Bytes.{each-byte, each-append, book-each, book-bytes}
-use Rattle.book_laws.proofs.Cells.{cells-of, zero-label}
-use Rattle.book_laws.proofs.Rows.{always-true, joined-exact}
 
 -- ---- 24 tests and 60 faults, each of which answers every test wrong
 

@@ -13,9 +13,12 @@ use lib.Seq.{getD-set-same, getD-set-other, ext-getD}
 use Rattle.folds.specs.Fold.{every, always}
 use Rattle.folds.proofs.Below.{lt-or-ge, eq-or-ne, below-cases}
 use Rattle.folds.proofs.Bools.{both-false}
+use Rattle.folds.proofs.Gather.{always-true}
+use Rattle.folds.proofs.Rows.{rowsFrom, joined-from, rows-none, rows-take, rows-skip}
 use Rattle.table.specs.Table.{emptyTable, outputAt, lineOf, stuckOf}
 use Rattle.table.specs.WellFormed.{WellFormed}
 use Rattle.table.specs.declared.Table.{Table}
+use Rattle.table.proofs.Stored.{cell-here, cell-there, cells-same}
 use Rattle.book.specs.BookOf.{testBytes, faultBytes, responseBytes, answersWrong, responsesOf, bookOf}
 use Rattle.book.specs.Given.{begun}
 use Rattle.book.specs.Grow.{withTest, withFault, withResponse, differs}
@@ -25,10 +28,8 @@ use Rattle.book.specs.declared.Record.the-variants.{Test, Fault, Response, End}
 use Rattle.book.specs.declared.Stage.{Stage}
 use Rattle.book.specs.declared.Stage.the-variants.{Tests, Faults, Responses, Ended}
 use Rattle.book_laws.proofs.Along.{Along, along, go-on, test-step, fault-step, response-step}
-use Rattle.book_laws.proofs.Cells.{cell-here, cell-there, cells-same}
 use Rattle.book_laws.proofs.Good.{reached-good}
 use Rattle.book_laws.proofs.Grown.{Long, filled-here, filled-there, label-new}
-use Rattle.book_laws.proofs.Rows.{always-true, rowsFrom, joined-from, rows-none, rows-take, rows-skip}
 
 -- a table is its parts
 pub table-same : {u t : Table} → u .tests ≡ t .tests → u .faults ≡ t .faults → u .cells ≡ t .cells → u .lines ≡ t .lines → u .stuck ≡ t .stuck → u ≡ t

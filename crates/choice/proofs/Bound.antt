@@ -2,40 +2,23 @@
 use mathlib.Core.List.{List}
 use mathlib.Core.Logic.{inl, inr, ⊎-elim}
 use mathlib.Core.Path.{_≡_, sym, ap, _∙_}
-use Prim.Native.Nat.{ℕ, _+_, _-_, _*_, _/_, _%_, _^_, _≤_, _<_, max}
-use native.Mathlib.Nat.{mod-eq-of-lt, lt-of-le-of-lt, div-mul-le-self, mul-mod-left}
+use Prim.Native.Nat.{ℕ, _*_, _/_, _%_, _^_, _≤_, _<_}
+use native.Mathlib.Nat.{mod-eq-of-lt, lt-of-le-of-lt, div-mul-le-self}
 use native.Mathlib.Omega.{arith}
-use lib.Arith.{digits-mod}
-use lib.Bits.{bitAnd, bitOr, or-shr, or-step}
+use lib.Bits.{bitAnd, bitOr}
 use lib.ListN.{length, getD}
-use lib.Pow.{shr-shr, shl-shr}
 use Rattle.folds.proofs.Below.{lt-or-ge}
 use Rattle.sets.specs.Sets.{bit, weight}
-use Rattle.sets.proofs.Bits.{bit-low, bit-high, bit-zero, bit-below}
-use Rattle.cover.proofs.Shared.{bit-and, shares-not}
+use Rattle.sets.proofs.Bits.{from-out, from-in, bit-low, bit-high, bit-zero, bit-below}
+use Rattle.sets.proofs.Shared.{bit-and, bit-or, shares-not}
+use Rattle.sets.proofs.Weight.{weight-two, weight-more}
 use Rattle.choice.specs.Search.{Open, RestOf, OneMore, NeedsMore}
-use Rattle.choice.proofs.Weights.{weight-two, weight-more}
 
-bit-or : (a b t : ℕ) → bit (bitOr a b) t ≡ max (bit a t) (bit b t)
-unfolding bit
-bit-or a b t =
-    ap (λ (x : ℕ). x % 2) (or-shr a b t ∙ or-step (a / 2 ^ t) (b / 2 ^ t))
-    ∙ digits-mod (bitOr (a / 2 ^ t / 2) (b / 2 ^ t / 2)) {m = 2} (omega arith)
-
--- ---- the keep tests from t on
-
-high-bit : (s t j : ℕ) → bit (s / 2 ^ t * 2 ^ t) (t + j) ≡ bit s (t + j)
-unfolding bit
-high-bit s t j =
-    ap (λ (x : ℕ). x % 2) (sym (shr-shr (s / 2 ^ t * 2 ^ t) t j) ∙ ap (λ (x : ℕ). x / 2 ^ j) (shl-shr (s / 2 ^ t) t) ∙ shr-shr s t j)
-
+-- the kept tests from t on
 pub rest-of : (keep t : ℕ) → keep < 2 ^ 32 → RestOf keep t (keep / 2 ^ t * 2 ^ t % 4294967296)
 rest-of keep t h =
     let e : keep / 2 ^ t * 2 ^ t % 4294967296 ≡ keep / 2 ^ t * 2 ^ t = mod-eq-of-lt (lt-of-le-of-lt (div-mul-le-self keep (2 ^ t)) h) in
-    rw e (record {
-      low = λ i l. sym (bit-low (keep / 2 ^ t * 2 ^ t) t i l) ∙ ap (λ (x : ℕ). bit x i) (mul-mod-left (keep / 2 ^ t) (2 ^ t)) ∙ bit-zero i;
-      high = λ i l. let q : t + (i - t) ≡ i = omega arith in rw q at (high-bit keep t (i - t));
-    })
+    rw e (record { low = from-out keep t; high = from-in keep t })
 
 -- ---- the loop's invariant: no taken test is below t, and the taken tests of each open set weigh at least n
 pub record Covered (w : ℕ → ℕ) (masks : List ℕ) (keep t chosen taken n : ℕ) : Type 0 where

@@ -10,8 +10,9 @@ use lib.ListN.{length, take, drop, length-append}
 use lib.Seq.{take-append-seam}
 use Rattle.folds.proofs.Below.{lt-or-ge}
 use Rattle.sets.specs.Sets.{Within, one}
+use Rattle.sets.specs.Collect.{setOf}
 use Rattle.sets.proofs.Bits.{below-of-bits}
-use Rattle.sets.proofs.Weight.{weight-empty}
+use Rattle.sets.proofs.Weight.{weight-empty, size-most}
 use Rattle.table.specs.WellFormed.{WellFormed}
 use Rattle.table.specs.declared.Chosen.the-variants.{Tests, Refused}
 use Rattle.table.specs.declared.Refusal.the-variants.{NoneWithinCap}
@@ -21,11 +22,10 @@ use Rattle.terms.specs.Terms.{Reaches, Kept}
 use Rattle.terms_laws.proofs.Choice.{choice-exists, choice-fewest, strike-out}
 use Rattle.cover.specs.declared.inner.Masks.{Masks}
 use Rattle.cover.specs.Answer.{keptSet}
-use Rattle.cover.specs.Collect.{setOf}
 use Rattle.cover.specs.Filled.{Filled}
 use Rattle.cover.specs.Kept.{kept}
 use Rattle.cover.specs.Masks.{masksOf}
-use Rattle.cover.proofs.Fill.{filled-take, filled-part}
+use Rattle.cover.proofs.Fill.{filled-take, filled-part, filled-kept}
 use Rattle.cover.proofs.Goals.{hits-reaches, reaches-hits}
 use Rattle.cover.proofs.Aside.{set-kept, kept-set}
 use Rattle.choice.specs.declared.search.Found.{Found}
@@ -33,15 +33,6 @@ use Rattle.choice.specs.declared.search.Found.the-variants.{Set, Nothing
 use Rattle.choice.specs.Answer.{Sought, withinCap, ChoiceIs}
 use Rattle.choice.specs.Order.{Reordered}
 use Rattle.choice.specs.Search.{Node, Open, Best}
-use Rattle.choice.proofs.Weights.{size-most}
-
-pub one-positive : (t : ℕ) → 0 < one t
-unfolding one
-one-positive t = omega arith
-
-pub one-is : (t : ℕ) → one t ≡ 1
-unfolding one
-one-is t = refl
 
 -- nothing is decided
 pub node-root : (w : ℕ → ℕ) (masks : List ℕ) → Node w masks 0 0 0 0
@@ -94,9 +85,8 @@ module _ (tb : Table) (formed : WellFormed tb) (goal : Goal) where
   pub sought-by : (m : Masks) → Filled tb goal m → (row : List ℕ) → Reordered (take (m .count) (m .list)) row
       → (keep : ℕ) → keep ≡ setOf (kept (take (m .count) (m .list)) (tb .tests)) (tb .tests)
       → (r : Found) → Best one (take (m .count) (row ++ drop (m .count) (m .list))) keep 0 0 25 r → Sought tb goal r
-  unfolding keptSet
   sought-by m f row o keep e r b =
-      sought row (rw (filled-take tb goal m f) at o) r (rw (e, filled-take tb goal m f, row-part tb goal m f row o) at b)
+      sought row (rw (filled-take tb goal m f) at o) r (rw (filled-kept tb goal m f keep e, row-part tb goal m f row o) at b)
 
   -- ---- the cap
 

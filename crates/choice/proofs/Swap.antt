@@ -7,7 +7,7 @@ use native.Mathlib.Omega.{arith}
 use lib.ListN.{length, getD, set, length-set}
 use lib.Seq.{getD-set-same, getD-set-other}
 use Rattle.folds.proofs.Below.{eq-or-ne}
-use Rattle.cover.specs.Masks.{Shares}
+use Rattle.sets.specs.Sets.{Shares}
 use Rattle.choice.specs.Order.{Reordered}
 
 pub order-same : (xs : List ℕ) → Reordered xs xs

@@ -1,8 +1,7 @@
 -- What holds at a node of the search, from what holds at the nodes below it, for any weight of each test. Assumes nothing.
-use mathlib.Core.Bool.{true}
 use mathlib.Core.List.{List}
 use mathlib.Core.Logic.{inl, inr, ⊎-elim}
-use mathlib.Core.Path.{_≡_, refl, sym, ap, _∙_, subst}
+use mathlib.Core.Path.{_≡_, sym, ap, _∙_, subst}
 use Prim.Native.Nat.{ℕ, suc, _+_, _-_, _%_, _^_, _≤_, _<_}
 use native.Mathlib.Nat.{mod-eq-of-lt, lt-of-lt-of-le, eq-or-lt-of-le, mod-lt}
 use native.Mathlib.Numerals.{add-one}
@@ -11,22 +10,15 @@ use lib.Bits.{bitAnd}
 use lib.ListN.{length, getD}
 use lib.Pow.{pow-mono, pow-pos}
 use Rattle.folds.proofs.Below.{lt-or-ge}
-use Rattle.sets.specs.Sets.{bit, weight, Before}
+use Rattle.sets.specs.Sets.{bit, weight, Before, Shares}
 use Rattle.sets.proofs.Bits.{bit-cases, mod-in, mod-out, bit-low, bit-high, bit-below, top-lt, top-below}
 use Rattle.sets.proofs.Order.{precedes-weight}
 use Rattle.sets.proofs.Weight.{weight-top}
-use Rattle.cover.specs.Collect.{withTest}
-use Rattle.cover.specs.Masks.{Shares}
-use Rattle.cover.proofs.Shared.{shares, shares-not}
+use Rattle.sets.proofs.Shared.{shares, shares-not}
 use Rattle.choice.specs.declared.search.Found.{Found}
 use Rattle.choice.specs.declared.search.Found.the-variants.{Set, Nothing}
 use Rattle.choice.specs.Search.{FirstUnhit, Node, Open, NeedsMore, Best, limitAfter, orElse}
 use Rattle.choice.proofs.Weights.{agreed-weight, agreed-same}
-
--- test t is taken
-pub taken : (s t : ℕ) → withTest s t true ≡ s + 2 ^ t
-unfolding withTest
-taken s t = refl
 
 -- two sets that agree below t, with t in the first alone
 before-at : (s s' t : ℕ) → s % 2 ^ t ≡ s' % 2 ^ t → bit s t ≡ 1 → bit s' t ≡ 0 → Before s s'

@@ -6,8 +6,8 @@ use mathlib.Core.Path.{_≡_}
 use Prim.Native.Nat.{ℕ, _+_, _%_, _^_, _≤_, _<_}
 use lib.Bits.{bitAnd, bitOr}
 use lib.ListN.{length, getD}
-use Rattle.sets.specs.Sets.{bit, weight, Precedes}
-use Rattle.cover.specs.Masks.{Shares, Hits}
+use Rattle.sets.specs.Sets.{bit, weight, Precedes, Shares}
+use Rattle.cover.specs.Masks.{Hits}
 use Rattle.choice.specs.declared.search.Found.{Found}
 use Rattle.choice.specs.declared.search.Found.the-variants.{Set, Nothing}
 

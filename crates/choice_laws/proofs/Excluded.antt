@@ -9,7 +9,9 @@ use lib.ListN.{length, set}
 use Rattle.folds.specs.Fold.{both, every, total, joined, single, always, listed, onto}
 use Rattle.folds.proofs.Bools.{both-left, both-right}
 use Rattle.sets.specs.Sets.{bit, share, one}
+use Rattle.sets.specs.Collect.{withTest, setOf}
 use Rattle.sets.proofs.Bits.{below-of-bits}
+use Rattle.sets.proofs.Weight.{size-most}
 use Rattle.table.specs.Answers.{chosenSet}
 use Rattle.table.specs.Table.{placeOf, cellAt, emptyTable}
 use Rattle.table.specs.Test.{differ, fresh, labelRight, cellRight, rowRight, wellFormed}
@@ -21,12 +23,10 @@ use Rattle.table.specs.declared.Table.{Table}
 use Rattle.table.proofs.Formed.{formed}
 use Rattle.terms.specs.Columns.{agrees}
 use Rattle.terms.specs.Terms.{TestOf}
-use Rattle.cover.specs.Collect.{withTest, setOf}
 use Rattle.cover.specs.Masks.{goalPair, differs, maskOf, goalMask, counts, maskRow, masksOf}
 use Rattle.choice.specs.Answer.{ChoiceIs}
 use Rattle.choice.proofs.Pins.{apart, choose-pins}
 use Rattle.choice_laws.proofs.Small.{hitsAll, firstIn, precedes, noBetter, isChoice, choice-of}
-use Rattle.choice.proofs.Weights.{size-most}
 
 -- ---- small tables: a row for each test, the correct output first, then that of each fault
 

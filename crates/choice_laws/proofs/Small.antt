@@ -15,11 +15,11 @@ use Rattle.folds.proofs.Bools.{clash, both-true, both-left, both-right, either-
 use Rattle.folds.proofs.Every.{every-at}
 use Rattle.sets.specs.Sets.{bit, size, one, Before, Precedes}
 use Rattle.sets.proofs.Bits.{bit-below, bit-out, below-of-bits}
+use Rattle.sets.proofs.Shared.{shares, shares-not}
 use Rattle.table.specs.declared.Goal.{Goal}
 use Rattle.table.specs.declared.Table.{Table}
 use Rattle.terms.specs.Choice.{Choice}
 use Rattle.cover.specs.Masks.{Hits, masksOf}
-use Rattle.cover.proofs.Shared.{shares, shares-not}
 use Rattle.cover.proofs.Goals.{hits-reaches, reaches-hits}
 
 unfoldable pub hitsAll : List ℕ → ℕ → Bool

@@ -9,6 +9,8 @@ use Rattle.folds.specs.Fold.{count, Tells}
 use Rattle.folds.proofs.Below.{lt-or-ge}
 use Rattle.folds.proofs.Bools.{clash, tells-by, tells-yes, tells-no}
 use Rattle.sets.specs.Sets.{has}
+use Rattle.sets.specs.Collect.{setOf}
+use Rattle.sets.proofs.Collect.{set-tells, set-high}
 use Rattle.table.specs.Table.{outputAt, cellAt}
 use Rattle.table.specs.Test.{Tested}
 use Rattle.table.specs.declared.Refusal.the-variants.{NotWellFormed}
@@ -17,9 +19,7 @@ use Rattle.table.proofs.Formed.{accepted, rejected, few-columns}
 use Rattle.terms.specs.Columns.{lowest}
 use Rattle.terms_laws.proofs.Classes.{alike-tells}
 use Rattle.classes.specs.Classes.{unnumbered, numbersOf, classesOf}
-use Rattle.classes.specs.Sets.{setOf}
 use Rattle.classes.specs.Undetectable.{undetected, UndetectableFault, UndetectableIn}
-use Rattle.classes.proofs.Sets.{set-has, set-high}
 use Rattle.table.specs.declared.Faults.the-variants as faults
 use Rattle.table.specs.declared.Verdict.the-variants as verdict
 
@@ -28,7 +28,7 @@ undetected-tells : (tb : Table) (f : ℕ) → Tells (has (setOf (undetected (out
 unfolding undetected
 undetected-tells tb f = ⊎-elim
     (λ (w : f < tb .faults).
-    let e = set-has (undetected (outputAt tb) (tb .tests)) (tb .faults) f w in
+    let e = set-tells (undetected (outputAt tb) (tb .tests)) (tb .faults) f w in
     tells-by _ (λ h. (w, tells-yes _ (alike-tells tb 0 (f + 1)) (sym e ∙ h))) (λ h k. tells-no _ (alike-tells tb 0 (f + 1)) (sym e ∙ h) (k .1)))
     (λ (w : tb .faults ≤ f).
     let e = set-high (undetected (outputAt tb) (tb .tests)) (tb .faults) f w in

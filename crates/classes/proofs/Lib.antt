@@ -1,5 +1,4 @@
 pub mod Numbers
-pub mod Sets
 pub mod Calls
 pub mod Meaning
 pub mod Pins

@@ -1,11 +1,11 @@
 -- What the answers of the two calls say of each other. Assumes nothing.
-use mathlib.Core.Bool.{Bool, true, false}
-use mathlib.Core.Path.{_≡_, refl, sym, _∙_}
+use mathlib.Core.Bool.{true}
+use mathlib.Core.Path.{_≡_, sym, _∙_}
 use Prim.Native.Nat.{ℕ, _+_, _<_}
 use native.Mathlib.Omega.{arith}
 use lib.ListN.{getD}
 use Rattle.folds.specs.Fold.{pick}
-use Rattle.folds.proofs.Bools.{tells-yes}
+use Rattle.folds.proofs.Bools.{pick-ap, tells-yes, told-true}
 use Rattle.folds.proofs.Gather.{listed-at}
 use Rattle.sets.specs.Sets.{has}
 use Rattle.table.specs.Answers.{verdictNumber, faultsSet}
@@ -16,18 +16,14 @@ use Rattle.table.specs.declared.Faults.{Faults}
 use Rattle.table.specs.declared.Table.{Table}
 use Rattle.terms.specs.Columns.{classNumber}
 use Rattle.terms.specs.Terms.{classOf, classCount}
-use Rattle.terms_laws.proofs.Classes.{undetectable-zero, zero-undetectable, told-true}
+use Rattle.terms_laws.proofs.Classes.{undetectable-zero, zero-undetectable}
 use Rattle.classes.specs.Classes.{unnumbered, numbersOf, classesOf}
 use Rattle.classes.specs.Undetectable.{UndetectableIn}
 
 -- 20 where the table is not well formed, and 0
 pub classify-number : (tb : Table) (given : Classes) → given ≡ classesOf tb → verdictNumber (given .verdict) ≡ pick (wellFormed tb) 0 20
 unfolding classesOf
-classify-number tb given g = rw g (go (wellFormed tb) _ _ refl refl)
-  where
-    go : (b : Bool) (x y : Classes) → verdictNumber (x .verdict) ≡ 0 → verdictNumber (y .verdict) ≡ 20 → verdictNumber (pick b x y .verdict) ≡ pick b 0 20
-    go true x y h k = h
-    go false x y h k = k
+classify-number tb given g = rw g (pick-ap {A = Classes} (λ x. verdictNumber (x .verdict)) (wellFormed tb) _ _)
 
 module _ (tb : Table) (w : wellFormed tb ≡ true) (given : Classes) (g : given ≡ classesOf tb) where
   -- `classify` gives each column its class number,

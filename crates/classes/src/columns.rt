@@ -3,7 +3,7 @@ ghost use mathlib.Core.Path.{_≡_};
 ghost use Prim.Native.Nat.{_≤_, _<_};
 ghost use Rattle.table.specs.Table.{cellAt};
 ghost use Rattle.classes.specs.Classes.{numbersOf};
-ghost use Rattle.classes.specs.Sets.{setOf};
+ghost use Rattle.sets.specs.Collect.{setOf};
 ghost use Rattle.classes.specs.Undetectable.{undetected};
 
 // The class number of each column, and zero past the last.

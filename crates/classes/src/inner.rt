@@ -5,7 +5,7 @@ ghost use Rattle.folds.specs.Fold.{count};
 ghost use Rattle.sets.specs.Sets.{has};
 ghost use Rattle.table.specs.Table.{cellAt};
 ghost use Rattle.terms.specs.Columns.{agrees, alike, apart, lowest, lowestOf};
-ghost use Rattle.classes.specs.Sets.{setOf};
+ghost use Rattle.sets.specs.Collect.{setOf};
 
 // Whether test t gives the columns a and b one output.
 fn agrees(cells: &[u8; 1464], a: usize, b: usize, t: usize) -> bool

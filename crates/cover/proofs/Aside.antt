@@ -4,29 +4,29 @@ use mathlib.Core.List.{List}
 use mathlib.Core.Logic.{inl, inr, ⊎-elim}
 use mathlib.Core.Path.{_≡_, refl, sym, ap, _∙_}
 use Prim.Native.Nat.{ℕ, zero, suc, _+_, _-_, _^_, _≤_, _<_}
-use native.Mathlib.Nat.{pow-suc}
 use native.Mathlib.Numerals.{add-one}
 use native.Mathlib.Omega.{arith}
 use borrow.Author.Tests.{ltb-true, lt-ltb, eqb-true, eq-eqb, not-true, not-false}
 use lib.Bits.{bitAnd}
 use lib.Dec.{ltb}
 use lib.ListN.{length, getD}
-use Rattle.folds.specs.Fold.{pick}
 use Rattle.folds.proofs.Bools.{clash, both-true, both-left, both-right, both-cases, either-left, either-right, either-second}
 use Rattle.folds.proofs.Every.{every-at, every-of}
+use Rattle.folds.proofs.Some.{some-of, some-at}
+use Rattle.folds.proofs.All.{AllOf}
 use Rattle.sets.specs.Sets.{bit, has}
+use Rattle.sets.specs.Collect.{setOf}
 use Rattle.sets.proofs.Bits.{bit-cases, bit-out, has-yes, has-no, has-bit}
+use Rattle.sets.proofs.Collect.{set-below, set-has, set-in, set-others}
+use Rattle.sets.proofs.Shared.{only-in, only-one, only-of}
 use Rattle.table.specs.declared.Goal.{Goal}
 use Rattle.table.specs.declared.Goal.the-variants.{Detect}
 use Rattle.table.specs.declared.Table.{Table}
 use Rattle.terms.specs.Terms.{TestOf, GoalPair, Counts, Covers, Aside, Kept, Essential}
-use Rattle.cover.specs.Collect.{withTest, setOf}
 use Rattle.cover.specs.Masks.{masksOf}
 use Rattle.cover.specs.Kept.{hasAt, followsAt, follows, isAt, maskIs, used, covers, outdoneBy, outdone, kept, lone}
 use Rattle.cover.specs.Answer.{keptSet, loneSet, Exactly, AsideTest}
-use Rattle.cover.proofs.Collect.{set-below, set-has, set-in, some-of, some-at}
-use Rattle.cover.proofs.Shared.{only-in, only-one, only-of}
-use Rattle.cover.proofs.Goals.{AllOf, pairMask, mask-lt, mask-separates, mask-in, masks-all, masks-at}
+use Rattle.cover.proofs.Goals.{pairMask, mask-lt, mask-separates, mask-in, masks-all, masks-at}
 
 -- ---- what the tests over masks say
 
@@ -108,16 +108,6 @@ module _ (tb : Table) (goal : Goal) (t : ℕ) where
       go false e = absurd (no-aside (stays-kept tb goal t l e))
 
 -- ---- the set-aside tests: all others
-
-set-others : (p : ℕ → Bool) (n : ℕ) → setOf (λ i. not (p i)) n + setOf p n + 1 ≡ 2 ^ n
-unfolding setOf withTest
-set-others p zero = refl
-set-others p (suc n) = go (p n) (set-others p n)
-  where
-    go : (b : Bool) → setOf (λ i. not (p i)) n + setOf p n + 1 ≡ 2 ^ n
-        → (setOf (λ i. not (p i)) n + pick (not b) (2 ^ n) 0) + (setOf p n + pick b (2 ^ n) 0) + 1 ≡ 2 ^ suc n
-    go true e = omega (arith, pow-suc 2 n)
-    go false e = omega (arith, pow-suc 2 n)
 
 module _ (tb : Table) (goal : Goal) where
   pub kept-fits : keptSet tb goal + 1 ≤ 2 ^ (tb .tests)

@@ -1,34 +1,24 @@
 -- The rows of masks, one behind the other in one array. Assumes nothing.
-use mathlib.Core.List.{List, [], _++_, append-assoc, append-nil}
+use mathlib.Core.List.{List, [], _++_}
 use mathlib.Core.Path.{_≡_, refl, sym, ap, _∙_}
 use Prim.Native.Nat.{ℕ, zero, suc, _+_, _-_, _≤_, _<_}
 use native.Mathlib.Numerals.{add-one}
 use native.Mathlib.Omega.{arith}
-use lib.ListN.{length, take, drop, length-append, length-drop, length-replicate}
-use lib.Seq.{drop-drop, drop-length, take-length, take-append-seam, drop-append-seam}
+use lib.ListN.{length, take, drop, length-append, length-replicate}
 use Rattle.folds.specs.Fold.{total, joined, always, onto}
 use Rattle.folds.proofs.Total.{total-more, total-grows}
-use Rattle.folds.proofs.Onto.{onto-length}
+use Rattle.folds.proofs.Gather.{always-true}
+use Rattle.folds.proofs.Onto.{onto-length, onto-front, onto-room, onto-behind}
 use Rattle.folds.proofs.Joined.{joined-none, joined-yes}
+use Rattle.sets.specs.Collect.{setOf}
 use Rattle.table.specs.declared.Goal.{Goal}
 use Rattle.table.specs.declared.Table.{Table}
 use Rattle.cover.specs.declared.inner.Masks.{Masks}
+use Rattle.cover.specs.Answer.{keptSet}
+use Rattle.cover.specs.Kept.{kept}
 use Rattle.cover.specs.Masks.{maskRow, masksOf}
 use Rattle.cover.specs.Filled.{noMasks, Filled}
 use Rattle.cover.proofs.Masks.{row-few}
-
--- a list written to what is behind `at`, where `at` is the end of what was written before: the buffer as a call
--- `f(&mut b[at..])` leaves it
-onto-behind : (ys xs d b b′ row : List ℕ) (at m : ℕ) → length b ≡ m → b ≡ onto ys d → at ≡ length ys
-    → row ≡ onto xs (take (m - at) (drop at b)) → b′ ≡ take at b ++ (row ++ drop (m - at) (drop at b)) → b′ ≡ onto (ys ++ xs) d
-unfolding onto
-onto-behind ys xs d b b′ row at m l e k r h =
-    let n : m - at ≡ length (drop at b) = rw (← l) (sym (length-drop at b)) in
-    let f : take at b ≡ ys = rw (e, k) (take-append-seam ys (drop (length ys) d)) in
-    let g : drop at b ≡ drop (length ys) d = rw (e, k) (drop-append-seam ys (drop (length ys) d)) in
-    h
-    ∙ ap (λ (x : List ℕ). take at b ++ (x ++ drop (m - at) (drop at b))) r
-    ∙ rw (n, take-length (drop at b), drop-length (drop at b), append-nil, f, g, length-append, append-assoc, drop-drop)
 
 none-long : length noMasks ≡ 1830
 unfolding noMasks
@@ -48,8 +38,8 @@ module _ (out : ℕ → ℕ → ℕ) (tests : ℕ) (goal : Goal) (columns : ℕ)
   rowsTo a = joined always (maskRow out tests goal columns) a
 
   rows-more : (a : ℕ) → rowsTo (a + 1) ≡ rowsTo a ++ maskRow out tests goal columns a
-  unfolding rowsTo always
-  rows-more a = joined-yes always (maskRow out tests goal columns) a refl
+  unfolding rowsTo
+  rows-more a = joined-yes always (maskRow out tests goal columns) a (always-true a)
 
   pub rows-none : rowsTo 0 ≡ []
   unfolding rowsTo
@@ -88,12 +78,15 @@ module _ (out : ℕ → ℕ → ℕ) (tests : ℕ) (goal : Goal) (columns : ℕ)
 
 module _ (tb : Table) (goal : Goal) (r : Masks) (f : Filled tb goal r) where
   pub filled-take : take (r .count) (r .list) ≡ masksOf tb goal
-  unfolding onto
-  filled-take = rw (f .list, f .count) (take-append-seam (masksOf tb goal) (drop (length (masksOf tb goal)) noMasks))
+  filled-take = rw (f .list, f .count) (onto-front (masksOf tb goal) noMasks)
 
   pub filled-fits : r .count ≤ length (r .list)
-  unfolding onto
-  filled-fits = rw (f .list, f .count, length-append) (omega arith)
+  filled-fits = rw (f .list, f .count) (onto-room (masksOf tb goal) noMasks)
 
   pub filled-part : r .count ≡ length (take (r .count) (r .list))
   filled-part = f .count ∙ ap length (sym filled-take)
+
+  -- the kept tests by them are those of the goal
+  pub filled-kept : (keep : ℕ) → keep ≡ setOf (kept (take (r .count) (r .list)) (tb .tests)) (tb .tests) → keep ≡ keptSet tb goal
+  unfolding keptSet
+  filled-kept keep e = rw (← filled-take) e

@@ -1,69 +1,24 @@
 -- What holds of every mask of a goal, and what holds of every goal pair that counts. Assumes nothing.
 use mathlib.Core.Bool.{Bool, true, false}
-use mathlib.Core.List.{List, [], _∷_, _++_}
-use mathlib.Core.Logic.{⊎-elim}
 use mathlib.Core.Path.{_≡_, refl, sym, ap, _∙_}
-use Prim.Native.Nat.{ℕ, zero, suc, _^_, _<_}
-use native.Mathlib.Nat.{le-of-suc-le-suc}
+use Prim.Native.Nat.{ℕ, _^_, _<_}
 use native.Mathlib.Omega.{arith}
 use borrow.Author.Tests.{ltb-true, lt-ltb, eqb-true, eq-eqb, ne-eqb}
 use lib.Dec.{eqb, ltb}
-use lib.ListN.{length, getD}
-use Rattle.folds.specs.Fold.{pick, joined, single, always}
+use Rattle.folds.specs.Fold.{always}
 use Rattle.folds.proofs.Bools.{clash, both-true, both-left, both-right}
-use Rattle.folds.proofs.Below.{below-cases}
-use Rattle.sets.specs.Sets.{bit}
+use Rattle.folds.proofs.All.{AllOf, joined-all, joined-at, gather-all, gather-at}
+use Rattle.folds.proofs.Gather.{always-true}
+use Rattle.sets.specs.Sets.{bit, Shares}
 use Rattle.sets.proofs.Bits.{bit-zero, some-bit}
+use Rattle.sets.proofs.Collect.{set-lt, set-below, set-has, set-in}
 use Rattle.table.specs.Table.{outputAt, columns}
 use Rattle.table.specs.declared.Goal.{Goal}
 use Rattle.table.specs.declared.Goal.the-variants.{Detect, Diagnose}
 use Rattle.table.specs.declared.Table.{Table}
 use Rattle.terms.specs.Columns.{agrees}
 use Rattle.terms.specs.Terms.{TestOf, Separates, GoalPair, Counts, Reaches}
-use Rattle.cover.specs.Masks.{Shares, Hits, goalPair, differs, maskOf, goalMask, counts, maskRow, masksOf}
-use Rattle.cover.proofs.Collect.{set-lt, set-below, set-has, set-in}
-
--- ---- every entry of a list has Q
-
-abbrev pub AllOf : (ℕ → Type 0) → List ℕ → Type 0
-AllOf Q xs = (k : ℕ) → k < length xs → Q (getD xs k 0)
-
-module _ (Q : ℕ → Type 0) where
-  all-append : (xs ys : List ℕ) → AllOf Q xs → AllOf Q ys → AllOf Q (xs ++ ys)
-  all-append [] ys f g k l = g k l
-  all-append (x ∷ xs) ys f g zero l = f zero (omega arith)
-  all-append (x ∷ xs) ys f g (suc k) l = all-append xs ys (λ k l. f (suc k) (omega arith)) g k (le-of-suc-le-suc l)
-
-  all-left : (xs ys : List ℕ) → AllOf Q (xs ++ ys) → AllOf Q xs
-  all-left [] ys h k l = absurd (omega arith)
-  all-left (x ∷ xs) ys h zero l = h zero (omega arith)
-  all-left (x ∷ xs) ys h (suc k) l = all-left xs ys (λ k l. h (suc k) (omega arith)) k (le-of-suc-le-suc l)
-
-  all-right : (xs ys : List ℕ) → AllOf Q (xs ++ ys) → AllOf Q ys
-  all-right [] ys h k l = h k l
-  all-right (x ∷ xs) ys h k l = all-right xs ys (λ k l. h (suc k) (omega arith)) k l
-
-  module _ (p : ℕ → Bool) (g : ℕ → List ℕ) where
-    joined-all : (n : ℕ) → ((i : ℕ) → i < n → p i ≡ true → AllOf Q (g i)) → AllOf Q (joined p g n)
-    unfolding joined
-    joined-all zero h k l = absurd (omega arith)
-    joined-all (suc n) h k l = all-append (joined p g n) (pick (p n) (g n) []) (joined-all n (λ i m. h i (omega arith))) (go (p n) refl) k l
-      where
-        go : (b : Bool) → p n ≡ b → AllOf Q (pick b (g n) [])
-        go true e = h n (omega arith) e
-        go false e = λ k l. absurd (omega arith)
-
-    joined-at : (n : ℕ) → AllOf Q (joined p g n) → (i : ℕ) → i < n → p i ≡ true → AllOf Q (g i)
-    unfolding joined
-    joined-at zero h i l e k m = absurd (omega arith)
-    joined-at (suc n) h i l e k m =
-        ⊎-elim (λ v. joined-at n (all-left (joined p g n) (pick (p n) (g n) []) h) i v e k m)
-        (λ (q : i ≡ n). go (p n) (rw q at e) (all-right (joined p g n) (pick (p n) (g n) []) h) q)
-        (below-cases i n l)
-      where
-        go : (b : Bool) → b ≡ true → AllOf Q (pick b (g n) []) → i ≡ n → Q (getD (g i) k 0)
-        go true t w q = rw q (w k (rw q at m))
-        go false t w q = clash false t refl
+use Rattle.cover.specs.Masks.{Hits, goalPair, differs, maskOf, goalMask, counts, maskRow, masksOf}
 
 -- ---- the mask of a pair
 
@@ -131,25 +86,20 @@ module _ (tb : Table) (goal : Goal) where
   module _ (Q : ℕ → Type 0) where
     -- what holds of the mask of every goal pair that counts holds of every mask
     pub masks-all : ((a b : ℕ) → GoalPair goal tb a b → Counts tb a b → Q (pairMask tb a b)) → AllOf Q (masksOf tb goal)
-    unfolding masksOf maskRow single
+    unfolding masksOf maskRow
     masks-all h = joined-all Q always (maskRow (outputAt tb) (tb .tests) goal (columns tb)) (columns tb)
-        (λ a l w. joined-all Q (counts (outputAt tb) (tb .tests) goal a) (single (goalMask (outputAt tb) (tb .tests) goal a)) (columns tb) (λ b m c. one a b m c))
-      where
-        one : (a b : ℕ) → b < columns tb → counts (outputAt tb) (tb .tests) goal a b ≡ true → AllOf Q (single (goalMask (outputAt tb) (tb .tests) goal a) b)
-        one a b m c zero l =
-            let w = counted a b c in
-            rw (pair-mask a b (w .0)) (h a b (pair-of goal tb a b (w .0) m) (mask-counts tb a b (w .1)))
-        one a b m c (suc k) l = absurd (omega arith)
+        (λ a l w. gather-all Q (counts (outputAt tb) (tb .tests) goal a) (goalMask (outputAt tb) (tb .tests) goal a) (columns tb) (λ b m c.
+        let w = counted a b c in
+        rw (pair-mask a b (w .0)) (h a b (pair-of goal tb a b (w .0) m) (mask-counts tb a b (w .1)))))
 
     -- and the other way round
     pub masks-at : AllOf Q (masksOf tb goal) → (a b : ℕ) → GoalPair goal tb a b → Counts tb a b → Q (pairMask tb a b)
-    unfolding masksOf maskRow single always
+    unfolding masksOf maskRow
     masks-at h a b g c =
         let p = of-pair goal tb a b g in
         let l = pair-below goal tb a b g in
-        let row = joined-at Q always (maskRow (outputAt tb) (tb .tests) goal (columns tb)) (columns tb) h a (l .0) refl in
-        let m = joined-at Q (counts (outputAt tb) (tb .tests) goal a) (single (goalMask (outputAt tb) (tb .tests) goal a)) (columns tb) row b (l .1) (counting a b p (counts-mask tb a b c)) in
-        rw (pair-mask a b p) at (m 0 (omega arith))
+        let row = joined-at Q always (maskRow (outputAt tb) (tb .tests) goal (columns tb)) (columns tb) h a (l .0) (always-true a) in
+        rw (pair-mask a b p) at (gather-at Q (counts (outputAt tb) (tb .tests) goal a) (goalMask (outputAt tb) (tb .tests) goal a) (columns tb) row b (l .1) (counting a b p (counts-mask tb a b c)))
 
 -- ---- a set hits every mask exactly when it separates every goal pair that counts
 

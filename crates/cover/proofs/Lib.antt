@@ -1,9 +1,6 @@
-pub mod Collect
 pub mod Masks
 pub mod Fill
-pub mod Shared
 pub mod Goals
 pub mod Kept
 pub mod Aside
-pub mod Well
 pub mod Pins

@@ -2,14 +2,15 @@
 use mathlib.Core.Bool.{Bool, true, false, not}
 use mathlib.Core.Logic.{⊎-elim}
 use mathlib.Core.Path.{_≡_, refl, sym, _∙_}
-use Prim.Native.Nat.{ℕ, zero, suc, _+_, _-_, _≤_, _<_}
+use Prim.Native.Nat.{ℕ, _+_, _-_, _≤_, _<_}
 use native.Mathlib.Omega.{arith}
 use borrow.Author.Tests.{le-ltb, lt-ltb, eq-eqb, ne-eqb, not-true, not-false}
 use lib.Dec.{eqb}
 use lib.ListN.{length}
-use Rattle.folds.specs.Fold.{pick, count}
+use Rattle.folds.specs.Fold.{count}
 use Rattle.folds.proofs.Bools.{clash}
 use Rattle.folds.proofs.Below.{lt-or-ge}
+use Rattle.folds.proofs.Count.{count-above}
 use Rattle.folds.proofs.Gather.{gather-length}
 use Rattle.table.specs.declared.Goal.{Goal}
 use Rattle.table.specs.declared.Goal.the-variants.{Detect, Diagnose}
@@ -50,16 +51,6 @@ module _ (out : ℕ → ℕ → ℕ) (tests : ℕ) (goal : Goal) (a b m : ℕ) (
   unfolding counts
   counts-no z = rw (← e, eq-eqb m 0 z)
 
--- numbers above a alone have p: below i there are at most i - (a + 1)
-above : (p : ℕ → Bool) (a : ℕ) → ((i : ℕ) → p i ≡ true → a < i) → (i : ℕ) → count p i ≤ i - (a + 1)
-unfolding count
-above p a h zero = omega arith
-above p a h (suc i) = go (p i) refl (above p a h i)
-  where
-    go : (b : Bool) → p i ≡ b → count p i ≤ i - (a + 1) → count p i + pick b 1 0 ≤ suc i - (a + 1)
-    go true e k = omega (arith, h i e)
-    go false e k = omega arith
-
 module _ (out : ℕ → ℕ → ℕ) (tests : ℕ) (goal : Goal) (a : ℕ) where
   counts-above : (b : ℕ) → counts out tests goal a b ≡ true → a < b
   unfolding counts goalMask
@@ -68,8 +59,8 @@ module _ (out : ℕ → ℕ → ℕ) (tests : ℕ) (goal : Goal) (a : ℕ) where
   pub row-few : (columns : ℕ) → length (maskRow out tests goal columns a) ≤ columns - (a + 1)
   unfolding maskRow
   row-few columns =
-      rw (gather-length (counts out tests goal a) (goalMask out tests goal a) columns) (above (counts out tests goal a) a counts-above columns)
+      rw (gather-length (counts out tests goal a) (goalMask out tests goal a) columns) (count-above (counts out tests goal a) a counts-above columns)
 
   -- there is room for one mask more
   pub row-room : (columns n i m : ℕ) → n ≡ count (counts out tests goal a) i → counts out tests goal a i ≡ true → i < columns → columns ≤ a + 1 + m → n < m
-  row-room columns n i m e h l k = omega (arith, above (counts out tests goal a) a counts-above i, counts-above i h)
+  row-room columns n i m e h l k = omega (arith, count-above (counts out tests goal a) a counts-above i, counts-above i h)

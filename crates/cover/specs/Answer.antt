@@ -3,6 +3,7 @@
 use mathlib.Core.Path.{_≡_}
 use Prim.Native.Nat.{ℕ}
 use Rattle.sets.specs.Sets.{bit}
+use Rattle.sets.specs.Collect.{setOf}
 use Rattle.table.specs.Answers.{numberOf}
 use Rattle.table.specs.WellFormed.{WellFormed}
 use Rattle.table.specs.declared.Chosen.{Chosen}
@@ -11,7 +12,6 @@ use Rattle.table.specs.declared.Goal.{Goal}
 use Rattle.table.specs.declared.Goal.the-variants.{Detect}
 use Rattle.table.specs.declared.Table.{Table}
 use Rattle.terms.specs.Terms.{TestOf, Aside}
-use Rattle.cover.specs.Collect.{setOf}
 use Rattle.cover.specs.Masks.{masksOf}
 use Rattle.cover.specs.Kept.{kept, lone}
 

@@ -6,9 +6,8 @@ use Prim.Native.Nat.{ℕ, _^_}
 use lib.Bits.{bitAnd}
 use lib.Dec.{eqb, ltb}
 use lib.ListN.{length, getD}
-use Rattle.folds.specs.Fold.{both, either, every}
+use Rattle.folds.specs.Fold.{both, either, every, some}
 use Rattle.sets.specs.Sets.{has}
-use Rattle.cover.specs.Collect.{some}
 
 -- the mask has test u where it has test t
 unfoldable pub follows : ℕ → ℕ → ℕ → Bool

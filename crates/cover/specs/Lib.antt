@@ -1,4 +1,3 @@
-pub mod Collect
 pub mod Masks
 pub mod Filled
 pub mod Kept

@@ -2,22 +2,17 @@
 -- Assumes nothing.
 use mathlib.Core.Bool.{Bool, not}
 use mathlib.Core.List.{List}
-use mathlib.Core.Path.{_≡_}
 use Prim.Native.Nat.{ℕ, _<_}
 use lib.Dec.{eqb, ltb}
 use lib.ListN.{length, getD}
 use Rattle.folds.specs.Fold.{pick, both, joined, gather, always}
-use Rattle.sets.specs.Sets.{bit}
+use Rattle.sets.specs.Sets.{Shares}
+use Rattle.sets.specs.Collect.{setOf}
 use Rattle.table.specs.Table.{outputAt, columns}
 use Rattle.table.specs.declared.Goal.{Goal}
 use Rattle.table.specs.declared.Goal.the-variants.{Detect, Diagnose}
 use Rattle.table.specs.declared.Table.{Table}
 use Rattle.terms.specs.Columns.{agrees}
-use Rattle.cover.specs.Collect.{setOf}
-
--- some test is in both m and s
-abbrev pub Shares : ℕ → ℕ → Type 0
-Shares m s = (t : ℕ) × (bit m t ≡ 1) × (bit s t ≡ 1)
 
 -- s shares a test with every mask
 abbrev pub Hits : List ℕ → ℕ → Type 0

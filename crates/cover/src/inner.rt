@@ -1,7 +1,7 @@
 // The masks of a goal, and the tests weighed by them, for the crates above.
 ghost use mathlib.Core.Path.{_≡_};
 ghost use Prim.Native.Nat.{_^_, _≤_, _<_};
-ghost use Rattle.cover.specs.Collect.{withTest, setOf};
+ghost use Rattle.sets.specs.Collect.{withTest, setOf};
 ghost use Rattle.cover.specs.Filled.{Filled};
 ghost use Rattle.cover.specs.Kept.{kept};
 use table::Goal;

@@ -2,7 +2,7 @@
 ghost use mathlib.Core.Path.{_≡_};
 ghost use Prim.Native.Nat.{_≤_, _<_};
 ghost use lib.ListN.{getD};
-ghost use Rattle.cover.specs.Collect.{setOf};
+ghost use Rattle.sets.specs.Collect.{setOf};
 ghost use Rattle.cover.specs.Kept.{maskIs, used, follows, covers, outdoneBy, outdone, kept, lone};
 
 // Whether some mask has test t.

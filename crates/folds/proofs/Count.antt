@@ -2,7 +2,7 @@
 use mathlib.Core.Path.{_≡_, refl, sym, ap, _∙_}
 use mathlib.Core.Bool.{Bool, true, false}
 use mathlib.Core.Logic.{⊎-elim}
-use Prim.Native.Nat.{ℕ, zero, suc, _+_, _≤_, _<_}
+use Prim.Native.Nat.{ℕ, zero, suc, _+_, _-_, _≤_, _<_}
 use native.Mathlib.Nat.{le-antisymm, le-refl}
 use native.Mathlib.Numerals.{add-one}
 use native.Mathlib.Omega.{arith}
@@ -54,6 +54,16 @@ count-reaches p (suc n) k h = go (p n) refl (count-reaches p n k)
         (λ (w : k ≡ count p n). (n, omega arith, e, sym w))
         (below-cases k (count p n) (let q : pick {A = ℕ} (p n) 1 0 ≡ 1 = rw e in omega arith))
     go false e r = let x = r (let q : pick {A = ℕ} (p n) 1 0 ≡ 0 = rw e in omega arith) in (x .0, omega (arith, x .1), x .2, x .3)
+
+-- numbers above a alone have p: below i there are at most i - (a + 1)
+pub count-above : (p : ℕ → Bool) (a : ℕ) → ((i : ℕ) → p i ≡ true → a < i) → (i : ℕ) → count p i ≤ i - (a + 1)
+unfolding count
+count-above p a h zero = omega arith
+count-above p a h (suc i) = go (p i) refl (count-above p a h i)
+  where
+    go : (b : Bool) → p i ≡ b → count p i ≤ i - (a + 1) → count p i + pick b 1 0 ≤ suc i - (a + 1)
+    go true e k = omega (arith, h i e)
+    go false e k = omega arith
 
 -- ---- a loop `while i < n { if test(i) { k += 1; } i += 1; } k`, with the invariant k ≡ count p i
 

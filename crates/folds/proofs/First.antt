@@ -47,6 +47,12 @@ first-le p (suc n) = go (p zero) (first-le (λ i. p (suc i)) n)
     go true h = zero-le
     go false h = omega arith
 
+-- tests that agree have one lowest number
+pub first-same : (p q : ℕ → Bool) (n : ℕ) → ((i : ℕ) → i < n → p i ≡ q i) → first p n ≡ first q n
+unfolding first
+first-same p q zero e = refl
+first-same p q (suc n) e = rw (e zero (omega arith), first-same (λ i. p (suc i)) (λ i. q (suc i)) n (λ i w. e (suc i) (omega arith)))
+
 -- ---- a loop `while i < n { if test(i) { return i; } i += 1; } n`, with the invariant first p i ≡ i
 
 pub first-start : (p : ℕ → Bool) → first p 0 ≡ 0

@@ -11,8 +11,8 @@ use lib.Seq.{getD-at}
 use Rattle.folds.specs.Fold.{count, joined, single, gather, always, listed, onto}
 use Rattle.folds.proofs.Below.{below-cases}
 use Rattle.folds.proofs.Count.{count-less}
-use Rattle.folds.proofs.Onto.{onto-none, onto-store, onto-full}
-use Rattle.folds.proofs.Joined.{joined-same, joined-none, joined-yes, joined-no, joined-rows}
+use Rattle.folds.proofs.Onto.{onto-none, onto-get, onto-store, onto-full}
+use Rattle.folds.proofs.Joined.{joined-alike, joined-none, joined-yes, joined-no, joined-rows}
 
 module _ (p : ℕ → Bool) (f : ℕ → ℕ) where
   pub gather-length : (n : ℕ) → length (gather p f n) ≡ count p n
@@ -47,10 +47,24 @@ module _ (p : ℕ → Bool) (f : ℕ → ℕ) where
   pub gather-full : (n i : ℕ) (d s : List ℕ) → s ≡ onto (gather p f i) d → i ≤ n → n ≤ i → length d ≡ count p n → s ≡ gather p f n
   gather-full n i d s e h k l = gather-end n i d s e h k ∙ onto-full (gather p f n) d (gather-length n ∙ sym l)
 
--- values that agree are gathered to one list
-pub gather-same : (p : ℕ → Bool) (f h : ℕ → ℕ) (n : ℕ) → ((i : ℕ) → i < n → f i ≡ h i) → gather p f n ≡ gather p h n
+-- values that agree where they are taken are gathered to one list
+pub gather-agree : (p : ℕ → Bool) (f h : ℕ → ℕ) (n : ℕ) → ((i : ℕ) → i < n → p i ≡ true → f i ≡ h i) → gather p f n ≡ gather p h n
 unfolding single
-gather-same p f h n e = joined-same p (single f) (single h) n (λ i w. ap (λ (x : ℕ). x ∷ []) (e i w))
+gather-agree p f h n e = joined-alike p p (single f) (single h) n (λ i w. refl) (λ i w q. ap (λ (x : ℕ). x ∷ []) (e i w q))
+
+gather-last : (p : ℕ → Bool) (f : ℕ → ℕ) (n : ℕ) → p n ≡ true → getD (gather p f (suc n)) (count p n) 0 ≡ f n
+unfolding joined single
+gather-last p f n q = rw q (getD-at (gather p f n) (f n) [] 0 (count p n) (gather-length p f n))
+
+-- the value of i stands at its own place
+pub gather-get : (p : ℕ → Bool) (f : ℕ → ℕ) (n i : ℕ) → i < n → p i ≡ true → getD (gather p f n) (count p i) 0 ≡ f i
+unfolding joined
+gather-get p f zero i w h = absurd (omega arith)
+gather-get p f (suc n) i w h =
+    ⊎-elim
+    (λ v. List·getD-append (gather p f n) _ 0 (count p i) (omega (arith, gather-length p f n, count-less p i n v h)) ∙ gather-get p f n i v h)
+    (λ (e : i ≡ n). let q : p n ≡ true = rw e at h in rw e (gather-last p f n q))
+    (below-cases i n w)
 
 -- the place of the next store lies in a buffer that is as long as the whole answer
 pub gather-room : (p : ℕ → Bool) (n i j : ℕ) (r : Bool) (d s : List ℕ) → j ≡ count p i → i < n → r ≡ p i → r ≡ true → length s ≡ length d → length d ≡ count p n → j < length s
@@ -59,6 +73,10 @@ gather-room p n i j r d s e w q h l m = omega (arith, count-less p i n w (sym q 
 pub ruleset gathers = (gather-start, gather-store, gather-pass, gather-room, gather-full)
 
 -- ---- a value for each number
+
+pub always-true : (i : ℕ) → always i ≡ true
+unfolding always
+always-true i = refl
 
 count-always : (n : ℕ) → count always n ≡ n
 unfolding count always
@@ -92,5 +110,4 @@ module _ (f : ℕ → ℕ) where
       (below-cases i n h)
 
   pub listed-at : (n i : ℕ) (d : List ℕ) → i < n → getD (onto (listed f n) d) i 0 ≡ f i
-  unfolding onto
-  listed-at n i d h = List·getD-append (listed f n) _ 0 i (omega (arith, listed-length n)) ∙ listed-get n i h
+  listed-at n i d h = onto-get (listed f n) d i (omega (arith, listed-length n)) ∙ listed-get n i h

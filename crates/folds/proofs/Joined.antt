@@ -1,5 +1,5 @@
 -- Laws of `joined`: rows one after the other, each written to its own part of a buffer. Assumes nothing.
-use mathlib.Core.Path.{_≡_, refl, sym, ap, _∙_}
+use mathlib.Core.Path.{_≡_, refl, sym, ap, ap₂, _∙_}
 use mathlib.Core.Bool.{Bool, true, false}
 use mathlib.Core.List.{List, [], _++_, append-nil}
 use mathlib.Core.Logic.{⊎-elim}
@@ -13,11 +13,20 @@ use Rattle.folds.specs.Fold.{pick, count, joined, onto}
 use Rattle.folds.proofs.Below.{below-cases}
 use Rattle.folds.proofs.Onto.{onto-none, onto-part}
 
--- rows that agree where they are taken are joined to one list
-pub joined-same : (p : ℕ → Bool) (g h : ℕ → List ℕ) (n : ℕ) → ((i : ℕ) → i < n → g i ≡ h i) → joined p g n ≡ joined p h n
+-- tests that agree, and rows that agree where they are taken
+pub joined-alike : (p q : ℕ → Bool) (g h : ℕ → List ℕ) (n : ℕ) → ((i : ℕ) → i < n → p i ≡ q i) → ((i : ℕ) → i < n → p i ≡ true → g i ≡ h i) → joined p g n ≡ joined q h n
 unfolding joined
-joined-same p g h zero e = refl
-joined-same p g h (suc n) e = rw (joined-same p g h n (λ i w. e i (omega arith)), e n (omega arith))
+joined-alike p q g h zero e f = refl
+joined-alike p q g h (suc n) e f =
+    ap₂ (λ (a b : List ℕ). a ++ b) (joined-alike p q g h n (λ i w. e i (omega arith)) (λ i w. f i (omega arith)))
+    (go (p n) refl ∙ ap (λ (b : Bool). pick b (h n) []) (e n (omega arith)))
+  where
+    go : (b : Bool) → p n ≡ b → pick b (g n) [] ≡ pick b (h n) []
+    go true t = f n (omega arith) t
+    go false t = refl
+
+pub joined-same : (p : ℕ → Bool) (g h : ℕ → List ℕ) (n : ℕ) → ((i : ℕ) → i < n → g i ≡ h i) → joined p g n ≡ joined p h n
+joined-same p g h n e = joined-alike p p g h n (λ i w. refl) (λ i w t. e i w)
 
 module _ (p : ℕ → Bool) (g : ℕ → List ℕ) where
   pub joined-none : joined p g 0 ≡ []
@@ -64,6 +73,25 @@ module _ (p : ℕ → Bool) (g : ℕ → List ℕ) where
       (λ (e : i ≡ n). let r : p n ≡ true = rw (← e) q in rw (e, r, drop-append-seam (joined p g n) (g n), take-length (g n)))
       (below-cases i n w)
 
+  -- nothing more from k on
+  pub joined-stop : (k n : ℕ) → k ≤ n → ((i : ℕ) → k ≤ i → i < n → pick (p i) (g i) [] ≡ []) → joined p g n ≡ joined p g k
+  unfolding joined
+  joined-stop k zero l e = let z : k ≡ 0 = omega arith in rw z refl
+  joined-stop k (suc n) l e =
+      ⊎-elim
+      (λ (w : k < suc n). rw (e n (omega arith) (omega arith), append-nil) (joined-stop k n (omega arith) (λ i m v. e i m (omega arith))))
+      (λ (w : k ≡ suc n). rw w refl)
+      (below-cases k (suc n) (omega arith))
+
+  pub joined-most : (k n : ℕ) → ((i : ℕ) → length (g i) ≤ k) → length (joined p g n) ≤ n * k
+  unfolding joined
+  joined-most k zero h = omega arith
+  joined-most k (suc n) h = simp length-append (omega (arith, joined-most k n h, go (p n)))
+    where
+      go : (b : Bool) → length (pick b (g n) []) ≤ k
+      go true = h n
+      go false = omega arith
+
   -- ---- a loop that writes row i to its part where i has p; `at` is where the next part starts
 
   pub rows-start : (d : List ℕ) → d ≡ onto (joined p g 0) d
@@ -93,5 +121,11 @@ module _ (p : ℕ → Bool) (g : ℕ → List ℕ) where
 
   pub rows-end : (i m : ℕ) (d b : List ℕ) → b ≡ onto (joined p g i) d → i ≤ m → m ≤ i → b ≡ onto (joined p g m) d
   rows-end i m d b e h k = e ∙ ap (λ (n : ℕ). onto (joined p g n) d) (le-antisymm h k)
+
+-- where every row below n is taken, and they are of one length
+pub joined-exact : (p : ℕ → Bool) (g : ℕ → List ℕ) (k n : ℕ) → ((i : ℕ) → i < n → p i ≡ true) → ((i : ℕ) → i < n → length (g i) ≡ k) → length (joined p g n) ≡ n * k
+unfolding joined
+joined-exact p g k zero h l = omega arith
+joined-exact p g k (suc n) h l = rw (h n (omega arith)) (simp length-append (omega (arith, l n (omega arith), joined-exact p g k n (λ i m. h i (omega arith)) (λ i m. l i (omega arith)))))
 
 pub ruleset rows = (rows-start, rows-zero, rows-put, rows-pass, rows-at, rows-stay, rows-room, rows-end)

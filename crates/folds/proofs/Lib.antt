@@ -1,10 +1,13 @@
 pub mod Bools
 pub mod Below
 pub mod Every
+pub mod Some
 pub mod Count
 pub mod Total
 pub mod First
 pub mod Onto
 pub mod Joined
+pub mod Rows
+pub mod All
 pub mod Gather
 pub mod Decide

@@ -5,7 +5,7 @@ use Prim.Native.Nat.{ℕ, zero, suc, _+_, _-_, _≤_, _<_}
 use native.Mathlib.Nat.{add-zero, add-suc}
 use native.Mathlib.Omega.{arith}
 use Rattle.folds.specs.Fold.{total}
-use Rattle.folds.proofs.Below.{eq-or-ne}
+use Rattle.folds.proofs.Below.{below-cases, eq-or-ne}
 
 pub total-none : (f : ℕ → ℕ) → total f 0 ≡ 0
 unfolding total
@@ -46,3 +46,22 @@ total-stays f n m h z = let e : n + (m - n) ≡ m = omega arith in rw e at (go (
     go : (d : ℕ) → total f (n + d) ≡ total f n
     go zero = rw add-zero
     go (suc d) = rw add-suc (omega (arith, go d, z (n + d) (omega arith)))
+
+-- ---- number by number
+
+pub total-two : (f g h : ℕ → ℕ) (n : ℕ) → ((i : ℕ) → f i + g i ≤ h i) → total f n + total g n ≤ total h n
+unfolding total
+total-two f g h zero e = omega arith
+total-two f g h (suc n) e = omega (arith, total-two f g h n e, e n)
+
+pub total-le : (f g : ℕ → ℕ) (n : ℕ) → ((i : ℕ) → f i ≤ g i) → total f n ≤ total g n
+unfolding total
+total-le f g zero e = omega arith
+total-le f g (suc n) e = omega (arith, total-le f g n e, e n)
+
+-- more by d at the number j
+pub total-gap : (f g : ℕ → ℕ) (n j d : ℕ) → j < n → ((i : ℕ) → f i ≤ g i) → f j + d ≤ g j → total f n + d ≤ total g n
+unfolding total
+total-gap f g zero j d l e k = absurd (omega arith)
+total-gap f g (suc n) j d l e k =
+    ⊎-elim (λ m. omega (arith, total-gap f g n j d m e k, e n)) (λ q. omega (arith, total-le f g n e, ap f q, ap g q)) (below-cases j n l)

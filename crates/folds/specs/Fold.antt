@@ -28,6 +28,11 @@ unfoldable pub every : (ℕ → Bool) → ℕ → Bool
 every p zero = true
 every p (suc n) = both (every p n) (p n)
 
+-- some number below n has p
+unfoldable pub some : (ℕ → Bool) → ℕ → Bool
+some p zero = false
+some p (suc n) = either (some p n) (p n)
+
 -- how many numbers below n have p
 unfoldable pub count : (ℕ → Bool) → ℕ → ℕ
 count p zero = 0

@@ -2,15 +2,11 @@
 use mathlib.Core.Bool.{Bool, true, false, not}
 use mathlib.Core.List.{List}
 use mathlib.Core.Path.{_≡_, refl, sym, ap, _∙_}
-use Prim.Native.Nat.{ℕ, _+_, _^_, _≤_, _<_}
-use native.Mathlib.Nat.{lt-of-le-of-lt}
-use native.Mathlib.Omega.{arith}
+use Prim.Native.Nat.{ℕ, _+_, _≤_, _<_}
 use borrow.Author.Tests.{le-leb, lt-leb, not-true, not-false}
-use lib.ListN.{length, getD, take, drop, length-drop, List·getD-append}
-use lib.Seq.{take-append-le, drop-append-le}
-use mir.Syntax.{w64}
-use mir.Val.{Fits}
+use lib.ListN.{length, getD, take, drop}
 use Rattle.folds.specs.Fold.{onto}
+use Rattle.folds.proofs.Onto.{onto-slice, onto-get}
 use Rattle.sets.specs.Sets.{within}
 use Rattle.table.specs.Answers.{writtenNumber}
 use Rattle.table.specs.Test.{Tested}
@@ -57,16 +53,8 @@ module _ (tb : Table) (s : ℕ) (answer d : List ℕ) (r : Bool) (t : Tested tb 
 module _ (earlier : ℕ) (answer d : List ℕ) (n : ℕ) (e : List ℕ) (a : WritesOnto earlier answer d (Bytes n) e) where
   -- each part of the answer stands in the buffer,
   pub writes-part : (m k : ℕ) → m + k ≤ length answer → take k (drop m e) ≡ take k (drop m answer)
-  unfolding onto
-  writes-part m k h =
-      let l : k ≤ length (drop m answer) = simp length-drop (omega arith) in
-      rw (a .buffer, drop-append-le m answer _ (omega arith), take-append-le k (drop m answer) _ l)
+  writes-part m k h = rw (a .buffer) (onto-slice answer d m k h)
 
   -- and each byte
   pub writes-byte : (i : ℕ) → i < length answer → getD e i 0 ≡ getD answer i 0
-  unfolding onto
-  writes-byte i h = rw (a .buffer) (List·getD-append answer _ 0 i h)
-
--- the end of a part that lies in the buffer fits
-pub part-fits : (n at : ℕ) (d b : List ℕ) → at + n ≤ length b → length b ≡ length d → length d < 2 ^ 64 → Fits w64 (at + n)
-part-fits n at d b h l m = record { fits = lt-of-le-of-lt h (rw l m) }
+  writes-byte i h = rw (a .buffer) (onto-get answer d i h)

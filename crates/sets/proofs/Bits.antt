@@ -3,13 +3,13 @@ use mathlib.Core.Path.{_≡_, refl, sym, ap, _∙_, subst}
 use mathlib.Core.Bool.{true, false}
 use mathlib.Core.Logic.{_⊎_, inl, inr, ⊎-elim}
 use Prim.Native.Nat.{ℕ, zero, suc, _+_, _-_, _*_, _/_, _%_, _^_, _≤_, _<_}
-use native.Mathlib.Nat.{mod-lt, lt-of-lt-of-le, div-eq-of-lt, zero-lt-suc, mod-eq-of-lt, one-mul, zero-mul, div-one, mod-one, pow-suc}
+use native.Mathlib.Nat.{mod-lt, lt-of-lt-of-le, div-eq-of-lt, zero-lt-suc, mod-eq-of-lt, one-mul, zero-mul, div-one, mod-one, pow-suc, mul-mod-left}
 use native.Mathlib.Numerals.{one-add}
 use native.Mathlib.Omega.{arith}
-use borrow.Author.Tests.{eq-eqb, ne-eqb, eqb-true, eqb-false, lt-ltb, le-ltb, ltb-true, ltb-false}
+use borrow.Author.Tests.{eq-eqb, ne-eqb, eqb-true, eqb-false, lt-ltb, le-ltb, ltb-true}
 use lib.Arith.{bin-ind}
 use lib.Dec.{eqb}
-use lib.Pow.{pow-pos, pow-mono, mod-pow-add, mod-mod-pow, field, high, low, shr-shr, split}
+use lib.Pow.{pow-pos, pow-mono, mod-pow-add, mod-mod-pow, field, high, low, shr-shr, shl-shr, split}
 use Rattle.folds.proofs.Below.{below-cases, lt-or-ge}
 use Rattle.sets.specs.Sets.{bit, has, within, Within}
 
@@ -24,9 +24,6 @@ bit-cases s t = go (bit s t) (bit-lt s t)
     go : (b : ℕ) → b < 2 → (b ≡ 0) ⊎ (b ≡ 1)
     go zero h = inl refl
     go (suc b) h = inr (omega arith)
-
-pub bit-in : (s t : ℕ) → (bit s t ≡ 0 → ⊥) → bit s t ≡ 1
-bit-in s t h = ⊎-elim (λ e. absurd (h e)) (λ e. e) (bit-cases s t)
 
 pub bit-out : (s t : ℕ) → (bit s t ≡ 1 → ⊥) → bit s t ≡ 0
 bit-out s t h = ⊎-elim (λ e. e) (λ e. absurd (h e)) (bit-cases s t)
@@ -165,7 +162,25 @@ full-bit zero t h = absurd (omega arith)
 full-bit (suc n) t h =
     ⊎-elim (λ l. top-below (full n) n t (full-lt n) l ∙ full-bit n t l) (λ e. rw e (top-bit (full n) n (full-lt n))) (below-cases t n h)
 
+-- ---- the tests from t on
+
+shifted-bit : (s t j : ℕ) → bit (s / 2 ^ t * 2 ^ t) (t + j) ≡ bit s (t + j)
+unfolding bit
+shifted-bit s t j =
+    ap (λ (x : ℕ). x % 2) (sym (shr-shr (s / 2 ^ t * 2 ^ t) t j) ∙ ap (λ (x : ℕ). x / 2 ^ j) (shl-shr (s / 2 ^ t) t) ∙ shr-shr s t j)
+
+pub from-out : (s t i : ℕ) → i < t → bit (s / 2 ^ t * 2 ^ t) i ≡ 0
+from-out s t i l = sym (bit-low (s / 2 ^ t * 2 ^ t) t i l) ∙ ap (λ (x : ℕ). bit x i) (mul-mod-left (s / 2 ^ t) (2 ^ t)) ∙ bit-zero i
+
+pub from-in : (s t i : ℕ) → t ≤ i → bit (s / 2 ^ t * 2 ^ t) i ≡ bit s i
+from-in s t i l = let q : t + (i - t) ≡ i = omega arith in rw q at (shifted-bit s t (i - t))
+
 -- ---- the tests of the code
+
+-- a shift says whether test t is in
+pub has-shift : (s t : ℕ) → eqb (s / 2 ^ t % 2) 1 ≡ has s t
+unfolding has bit
+has-shift s t = refl
 
 -- one shift says whether all tests are below n
 pub within-shift : (s n : ℕ) → eqb (s / 2 ^ n) 0 ≡ within s n
@@ -178,10 +193,6 @@ within-shift s n = ⊎-elim
 pub within-yes : (s n : ℕ) → within s n ≡ true → s < 2 ^ n
 unfolding within
 within-yes s n e = ltb-true _ _ e
-
-pub within-no : (s n : ℕ) → within s n ≡ false → 2 ^ n ≤ s
-unfolding within
-within-no s n e = ltb-false _ _ e
 
 -- `within` says whether every test is below n
 pub within-tells : (s n : ℕ) → within s n ≡ true → Within (λ t. t < n) s

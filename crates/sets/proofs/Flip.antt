@@ -27,10 +27,11 @@ bit-xor a b t =
     ∙ digits-mod (bitXor (a / 2 ^ t / 2) (b / 2 ^ t / 2)) {m = 2}
     (differ-lt (a / 2 ^ t % 2) (b / 2 ^ t % 2) (mod-lt (a / 2 ^ t) (zero-lt-suc 1)) (mod-lt (b / 2 ^ t) (zero-lt-suc 1)))
 
-pow-bit : (t : ℕ) → bit (2 ^ t) t ≡ 1
+-- the set of test t alone
+pub pow-bit : (t : ℕ) → bit (2 ^ t) t ≡ 1
 pow-bit t = rw zero-add at (top-bit 0 t (pow-pos t))
 
-pow-bit-other : (t i : ℕ) → (i ≡ t → ⊥) → bit (2 ^ t) i ≡ 0
+pub pow-bit-other : (t i : ℕ) → (i ≡ t → ⊥) → bit (2 ^ t) i ≡ 0
 pow-bit-other t i ne =
     let z : 2 ^ t % 2 ^ t ≡ 0 = rw zero-add at (top-mod 0 t (pow-pos t)) in
     ⊎-elim (λ l. sym (bit-low (2 ^ t) t i l) ∙ ap (λ (x : ℕ). bit x i) z ∙ bit-zero i)

@@ -1,4 +1,6 @@
 pub mod Bits
+pub mod Collect
 pub mod Flip
+pub mod Shared
 pub mod Weight
 pub mod Order

@@ -15,6 +15,10 @@ bit s t = s / 2 ^ t % 2
 unfoldable pub has : ℕ → ℕ → Bool
 has s t = eqb (bit s t) 1
 
+-- some test is in both m and s
+abbrev pub Shares : ℕ → ℕ → Type 0
+Shares m s = (t : ℕ) × (bit m t ≡ 1) × (bit s t ≡ 1)
+
 -- every test of s is one of the allowed ones
 abbrev pub Within : (ℕ → Type 0) → ℕ → Type 0
 Within allowed s = (t : ℕ) → bit s t ≡ 1 → allowed t

@@ -2,18 +2,20 @@
 use mathlib.Core.Bool.{Bool, true, false}
 use mathlib.Core.List.{List, []}
 use mathlib.Core.Logic.{⊎-elim}
-use mathlib.Core.Path.{_≡_, refl, sym, ap, _∙_}
+use mathlib.Core.Path.{_≡_, sym, ap, _∙_}
 use Prim.Native.Nat.{ℕ, zero, suc, _<_}
 use native.Mathlib.Numerals.{add-one}
 use native.Mathlib.Omega.{arith}
 use borrow.Author.Tests.{eq-eqb}
 use lib.Dec.{eqb}
-use lib.ListN.{length, getD, List·getD-append}
+use lib.ListN.{length, getD}
 use Rattle.folds.specs.Fold.{pick, count, gather, single, onto}
 use Rattle.folds.proofs.Below.{lt-or-ge}
 use Rattle.folds.proofs.Count.{count-less, count-mono, count-reaches}
-use Rattle.folds.proofs.Gather.{gather-length}
+use Rattle.folds.proofs.Gather.{gather-length, gather-get}
 use Rattle.folds.proofs.Joined.{joined-none, joined-no}
+use Rattle.folds.proofs.Bools.{pick-ap}
+use Rattle.folds.proofs.Onto.{onto-get}
 use Rattle.sets.specs.Sets.{has, within}
 use Rattle.sets.proofs.Bits.{bit-zero, has-no, within-of}
 use Rattle.table.specs.Answers.{verdictNumber}
@@ -23,7 +25,6 @@ use Rattle.table.specs.declared.Suspects.{Suspects}
 use Rattle.table.specs.declared.Table.{Table}
 use Rattle.terms.specs.Columns.{outputOf}
 use Rattle.terms.specs.Terms.{signature}
-use Rattle.terms_laws.proofs.Classes.{gather-get}
 use Rattle.suspects.specs.Suspects.{unlisted, itself, suspect, foundUnder, refusedBy, suspectsOf}
 use Rattle.suspects.proofs.Answers.{suspect-same, same-suspect}
 
@@ -32,9 +33,8 @@ use Rattle.suspects.proofs.Answers.{suspect-same, same-suspect}
 module _ (p : ℕ → Bool) (n : ℕ) where
   -- each of them stands at its own place,
   at-place : (c : ℕ) → c < n → p c ≡ true → getD (onto (gather p itself n) unlisted) (count p c) 0 ≡ c
-  unfolding onto
   at-place c w h =
-      List·getD-append (gather p itself n) _ 0 (count p c) (omega (arith, gather-length p itself n, count-less p c n w h)) ∙ gather-get p itself n c w h
+      onto-get (gather p itself n) unlisted (count p c) (omega (arith, gather-length p itself n, count-less p c n w h)) ∙ gather-get p itself n c w h
 
   -- and at each place below their count stands one of them
   one-there : (i : ℕ) → i < count p n → (c : ℕ) × (c < n) × (p c ≡ true) × (count p c ≡ i) × (getD (onto (gather p itself n) unlisted) i 0 ≡ c)
@@ -54,11 +54,10 @@ pub suspects-number : (tb : Table) (s : ℕ) (seen : List ℕ) (a : Suspects) �
     → verdictNumber (a .verdict) ≡ pick (wellFormed tb) (pick (within s (tb .tests)) (pick (eqb (length seen) (count (has s) (tb .tests))) 0 25) 21) 20
 unfolding suspectsOf foundUnder refusedBy
 suspects-number tb s seen a e =
-    rw e (go (wellFormed tb) _ _ _ _ (go (within s (tb .tests)) _ _ _ _ (go (eqb (length seen) (count (has s) (tb .tests))) _ _ _ _ refl refl) refl) refl)
-  where
-    go : (b : Bool) (x y : Suspects) (m n : ℕ) → verdictNumber (x .verdict) ≡ m → verdictNumber (y .verdict) ≡ n → verdictNumber (pick b x y .verdict) ≡ pick b m n
-    go true x y m n h k = h
-    go false x y m n h k = k
+    let number : Suspects → ℕ = λ x. verdictNumber (x .verdict) in
+    rw e (pick-ap number (wellFormed tb) _ _
+    ∙ ap (λ (m : ℕ). pick (wellFormed tb) m 20) (pick-ap number (within s (tb .tests)) _ _
+    ∙ ap (λ (m : ℕ). pick (within s (tb .tests)) m 21) (pick-ap number (eqb (length seen) (count (has s) (tb .tests))) _ _)))
 
 -- ---- an accepted call
 

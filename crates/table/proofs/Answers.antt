@@ -5,13 +5,9 @@ use lib.Dec.{eqb}
 use Rattle.folds.specs.Fold.{pick}
 use Rattle.table.specs.declared.Refusal.{Refusal}
 use Rattle.table.specs.declared.Refusal.the-variants.{UnknownKind, BodyCut, NoEnd, OutOfPlace, TooMany, StuckValue, SameLabel, NotInBook, NotAfter, RepeatsCorrect, WrongCounts, BytesFollow, NotWellFormed, UnknownTest, CapTooHigh, NoneWithinCap, BufferShort, NotOneEach}
-use Rattle.table.specs.declared.Verdict.{Verdict}
-use Rattle.table.specs.declared.Chosen.{Chosen}
 use Rattle.table.specs.declared.Faults.{Faults}
 use Rattle.table.specs.declared.Written.{Written}
-use Rattle.table.specs.Answers.{numberOf, verdictNumber, chosenNumber, chosenSet, faultsNumber, faultsSet, writtenNumber, writtenCount}
-use Rattle.table.specs.declared.Verdict.the-variants as verdict
-use Rattle.table.specs.declared.Chosen.the-variants as chosen
+use Rattle.table.specs.Answers.{numberOf, faultsNumber, faultsSet, writtenNumber, writtenCount}
 use Rattle.table.specs.declared.Faults.the-variants as faults
 use Rattle.table.specs.declared.Written.the-variants as written
 
@@ -75,20 +71,6 @@ module _ {A : Type 0} (accepted : ℕ → A) (refused : Refusal → A) where
 
 pub number-one : (a b : Refusal) → numberOf a ≡ numberOf b → a ≡ b
 number-one a b e = answer-one {A = Refusal} (λ v. UnknownKind) (λ why. why) numberOf (λ why. 0) (refused-back (λ v. UnknownKind) (λ why. why)) a b e refl
-
-pub verdict-one : (a b : Verdict) → verdictNumber a ≡ verdictNumber b → a ≡ b
-verdict-one a b e = answer-one (λ v. verdict.Accepted) verdict.Refused verdictNumber (λ v. 0) back a b e refl
-  where
-    back : (v : Verdict) → answerOf (λ v. verdict.Accepted) verdict.Refused (verdictNumber v) 0 ≡ v
-    back verdict.Accepted = accepted-back (λ v. verdict.Accepted) verdict.Refused 0
-    back (verdict.Refused why) = refused-back (λ v. verdict.Accepted) verdict.Refused why
-
-pub chosen-one : (a b : Chosen) → chosenNumber a ≡ chosenNumber b → chosenSet a ≡ chosenSet b → a ≡ b
-chosen-one = answer-one chosen.Tests chosen.Refused chosenNumber chosenSet back
-  where
-    back : (a : Chosen) → answerOf chosen.Tests chosen.Refused (chosenNumber a) (chosenSet a) ≡ a
-    back (chosen.Tests s) = accepted-back chosen.Tests chosen.Refused s
-    back (chosen.Refused why) = refused-back chosen.Tests chosen.Refused why
 
 pub faults-one : (a b : Faults) → faultsNumber a ≡ faultsNumber b → faultsSet a ≡ faultsSet b → a ≡ b
 faults-one = answer-one faults.Set faults.Refused faultsNumber faultsSet back

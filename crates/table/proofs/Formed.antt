@@ -12,20 +12,15 @@ use lib.ListN.{getD}
 use mir.Syntax.{w64}
 use mir.Val.{Fits}
 use Rattle.folds.specs.Fold.{both, either, every}
-use Rattle.folds.proofs.Bools.{clash, both-true, both-left, both-right, both-false, either-second, tells-by}
+use Rattle.folds.proofs.Bools.{clash, both-true, both-left, both-right, both-false, both-no, no-both, either-second, tells-by, tells-no}
 use Rattle.folds.proofs.Below.{lt-or-ge}
 use Rattle.folds.proofs.Every.{every-at, every-of}
 use Rattle.table.specs.declared.Table.{Table}
-use Rattle.table.specs.Table.{cellAt, outputAt, lineOf, stuckOf}
+use Rattle.table.specs.Table.{cellAt, outputAt}
 use Rattle.table.specs.WellFormed.{WellFormed}
 use Rattle.table.specs.Test.{differ, fresh, labelRight, cellRight, rowRight, wellFormed, Tested}
 
 -- ---- a table that passes is well formed
-
-both-no : (a b : Bool) → not (both a b) ≡ true → a ≡ true → b ≡ true → ⊥
-both-no true true h p q = clash false h refl
-both-no true false h p q = clash false q refl
-both-no false b h p q = clash false p refl
 
 module _ (lines stuck : List ℕ) (faults f : ℕ) where
   used-label : f < faults → labelRight lines stuck faults f ≡ true → (getD stuck f 0 ≤ 1) × (fresh lines stuck f ≡ true)
@@ -74,12 +69,7 @@ formed tb h =
 module _ (tb : Table) (w : WellFormed tb) where
   differs : (f : ℕ) → f < tb .faults → (g : ℕ) → g < f → differ (tb .lines) (tb .stuck) f g ≡ true
   unfolding differ
-  differs f m g l = go (eqb (lineOf tb f) (lineOf tb g)) (eqb (stuckOf tb f) (stuckOf tb g)) refl refl
-    where
-      go : (a b : Bool) → eqb (lineOf tb f) (lineOf tb g) ≡ a → eqb (stuckOf tb f) (stuckOf tb g) ≡ b → not (both a b) ≡ true
-      go true true p q = absurd (w .distinct f g l m (eqb-true _ _ p) (eqb-true _ _ q))
-      go true false p q = refl
-      go false b p q = refl
+  differs f m g l = no-both _ _ (λ p q. w .distinct f g l m (eqb-true _ _ p) (eqb-true _ _ q))
 
   right-label : (f : ℕ) → f < 60 → labelRight (tb .lines) (tb .stuck) (tb .faults) f ≡ true
   unfolding labelRight fresh
@@ -120,11 +110,17 @@ module _ (tb : Table) (r : Bool) (h : Tested tb r) where
   pub rejected : not r ≡ true → wellFormed tb ≡ false
   rejected n = sym (h .is) ∙ not-true r n
 
+  pub well : not r ≡ false → WellFormed tb
+  well n = formed tb (accepted n)
+
+  pub ill : not r ≡ true → WellFormed tb → ⊥
+  ill n = tells-no r (h .says) (not-true r n)
+
   pub few-tests : not r ≡ false → tb .tests ≤ 24
-  few-tests n = formed tb (accepted n) .tests-fit
+  few-tests n = well n .tests-fit
 
   pub few-columns : not r ≡ false → tb .faults + 1 ≤ 61
-  few-columns n = omega (arith, formed tb (accepted n) .faults-fit)
+  few-columns n = omega (arith, well n .faults-fit)
 
   pub columns-fit : not r ≡ false → Fits w64 (tb .faults + 1)
   columns-fit n = record { fits = lt-of-le-of-lt (few-columns n) (lit< tt) }

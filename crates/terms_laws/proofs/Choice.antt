@@ -9,7 +9,7 @@ use Rattle.folds.proofs.Decide.{Decided, LeastBelow, least-exists}
 use Rattle.sets.specs.Sets.{bit, Within, weight, size, one, Before, Precedes}
 use Rattle.sets.proofs.Bits.{bit-cases, bit-below, bit-zero, below-of-bits, full, full-lt, full-bit}
 use Rattle.sets.proofs.Flip.{flip, flip-out, flip-in, flip-other}
-use Rattle.sets.proofs.Weight.{weight-out, weight-in}
+use Rattle.sets.proofs.Weight.{one-is, one-positive, weight-out, weight-in}
 use Rattle.sets.proofs.Order.{precedes-weight, precedes-antisym, precedes-trans, precedes-total, empty-first}
 use Rattle.table.specs.WellFormed.{WellFormed}
 use Rattle.table.specs.declared.Goal.{Goal}
@@ -60,8 +60,7 @@ choice-first tb goal s s' c h r e = go (c .first s' h r)
 -- ---- what setting aside leans on: how one test outdoes another
 
 weight-positive : (tb : Table) (t : ℕ) → 0 < testWeight tb t
-unfolding one
-weight-positive tb t = omega arith
+weight-positive tb t = one-positive t
 
 -- a number that falls from each test to one that outdoes it
 rank : Table → ℕ → ℕ
@@ -77,10 +76,9 @@ outdoes-other tb goal u t o e = omega (arith, o .0)
 -- with u in the place of t a set comes first
 outdoes-first : (tb : Table) (goal : Goal) (u t s : ℕ) → Outdoes tb goal u t → u < 24 → t < 24 → bit s t ≡ 1 → bit s u ≡ 0
     → Precedes (testWeight tb) s (flip (flip s t) u) → ⊥
-unfolding one
 outdoes-first tb goal u t s o l m held out =
     go (flip (flip s t) u)
-    (omega (arith, weight-in one (flip s t) u l without, weight-out one s t m held))
+    (omega (arith, weight-in one (flip s t) u l without, weight-out one s t m held, one-is u, one-is t))
     (flip-other (flip s t) u t (λ e. outdoes-other tb goal u t o (sym e)) ∙ flip-out s t held)
     (flip-in (flip s t) u without)
     (λ i k. flip-other (flip s t) u i (λ e. omega arith) ∙ flip-other s t i (λ e. omega (arith, o .0)))

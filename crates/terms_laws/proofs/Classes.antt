@@ -1,52 +1,25 @@
 -- Laws of classes: which columns are alike, their lowest columns, their numbers. Assumes nothing.
 use mathlib.Core.Bool.{Bool, true, false, not}
-use mathlib.Core.List.{List, [], _∷_, _++_}
+use mathlib.Core.List.{List}
 use mathlib.Core.Logic.{⊎-elim}
 use mathlib.Core.Path.{_≡_, refl, sym, ap, _∙_}
-use Prim.Native.Nat.{ℕ, zero, suc, _+_, _≤_, _<_}
+use Prim.Native.Nat.{ℕ, _+_, _≤_, _<_}
 use native.Mathlib.Nat.{le-antisymm}
 use native.Mathlib.Omega.{arith}
 use borrow.Author.Tests.{eq-eqb, eqb-true, eqb-false}
-use lib.ListN.{getD, List·getD-append}
-use lib.Seq.{getD-at}
-use Rattle.folds.specs.Fold.{pick, count, joined, single, gather, Tells}
-use Rattle.folds.proofs.Bools.{clash, tells-yes, tells-by}
+use lib.ListN.{getD}
+use Rattle.folds.specs.Fold.{count, Tells}
+use Rattle.folds.proofs.Bools.{clash, tells-yes, tells-by, told-true}
 use Rattle.folds.proofs.Below.{below-cases, lt-or-ge}
 use Rattle.folds.proofs.Every.{every-none, every-at, every-of, every-fails, every-lacks}
 use Rattle.folds.proofs.Count.{count-none, count-less, count-reaches}
 use Rattle.folds.proofs.First.{first-found, first-none, first-below, first-has, first-le}
-use Rattle.folds.proofs.Gather.{gather-length}
+use Rattle.folds.proofs.Gather.{gather-get, gather-agree}
 use Rattle.sets.specs.Sets.{has}
 use Rattle.table.specs.Table.{outputAt}
 use Rattle.table.specs.declared.Table.{Table}
 use Rattle.terms.specs.Columns.{agrees, outputOf, alike, apart, lowest, lowestOf, classNumber, outputsUnder}
 use Rattle.terms.specs.Terms.{Alike, Undetectable, classOf}
-
--- ---- lists of the values of those that have p
-
-gather-last : (p : ℕ → Bool) (f : ℕ → ℕ) (n : ℕ) → p n ≡ true → getD (gather p f (suc n)) (count p n) 0 ≡ f n
-unfolding joined single
-gather-last p f n q = rw q (getD-at (gather p f n) (f n) [] 0 (count p n) (gather-length p f n))
-
--- the value of i stands at its own place
-pub gather-get : (p : ℕ → Bool) (f : ℕ → ℕ) (n i : ℕ) → i < n → p i ≡ true → getD (gather p f n) (count p i) 0 ≡ f i
-unfolding joined
-gather-get p f zero i w h = absurd (omega arith)
-gather-get p f (suc n) i w h =
-    ⊎-elim
-    (λ v. List·getD-append (gather p f n) _ 0 (count p i) (omega (arith, gather-length p f n, count-less p i n v h)) ∙ gather-get p f n i v h)
-    (λ (e : i ≡ n). let q : p n ≡ true = rw e at h in rw e (gather-last p f n q))
-    (below-cases i n w)
-
--- values that agree where they are taken are gathered to one list
-pub gather-agree : (p : ℕ → Bool) (f h : ℕ → ℕ) (n : ℕ) → ((i : ℕ) → i < n → p i ≡ true → f i ≡ h i) → gather p f n ≡ gather p h n
-unfolding joined single
-gather-agree p f h zero e = refl
-gather-agree p f h (suc n) e = go (p n) refl (gather-agree p f h n (λ i w q. e i (omega arith) q))
-  where
-    go : (b : Bool) → p n ≡ b → gather p f n ≡ gather p h n → gather p f n ++ pick b (f n ∷ []) [] ≡ gather p h n ++ pick b (h n ∷ []) []
-    go true q r = rw (r, e n (omega arith) q)
-    go false q r = rw r
 
 module _ (out : ℕ → ℕ → ℕ) (tests : ℕ) where
   -- ---- columns that no test separates
@@ -209,10 +182,6 @@ pub alike-tells : (tb : Table) (a b : ℕ) → Tells (alike (outputAt tb) (tb .t
 alike-tells tb a b = tells-by (alike (outputAt tb) (tb .tests) a b)
     (λ h t w n. n (alike-at (outputAt tb) (tb .tests) a b t h w))
     (λ h k. let x = unlike-at (outputAt tb) (tb .tests) a b h in k (x .0) (x .1) (x .2))
-
-pub told-true : {P : Type 0} (r : Bool) → Tells r P → P → r ≡ true
-told-true true t p = refl
-told-true false t p = absurd (t p)
 
 -- two columns have one class number exactly when no test separates them
 pub one-class : (tb : Table) (a b : ℕ) → classOf tb a ≡ classOf tb b → Alike tb a b

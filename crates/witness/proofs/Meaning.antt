@@ -1,10 +1,10 @@
 -- What the sheet holds: the witness of two classes, at their own place; the first test of the set in which their rows differ.
 -- Assumes nothing.
-use mathlib.Core.Bool.{Bool, true}
+use mathlib.Core.Bool.{true}
 use mathlib.Core.List.{List}
 use mathlib.Core.Logic.{⊎-elim}
 use mathlib.Core.Path.{_≡_, refl, sym, ap, _∙_}
-use Prim.Native.Nat.{ℕ, zero, suc, _+_, _-_, _*_, _/_, _≤_, _<_}
+use Prim.Native.Nat.{ℕ, _+_, _-_, _*_, _/_, _≤_, _<_}
 use native.Mathlib.Nat.{le-antisymm, mul-sub, mul-add, mul-one, mul-left-comm}
 use native.Mathlib.Omega.{arith}
 use borrow.Author.Tests.{lt-ltb, eq-eqb, ne-eqb, not-true}
@@ -15,27 +15,21 @@ use Rattle.folds.specs.Fold.{pick, count, first}
 use Rattle.folds.proofs.Below.{lt-or-ge, eq-or-ne}
 use Rattle.folds.proofs.Bools.{both-true, both-left, both-right, clash}
 use Rattle.folds.proofs.Count.{count-yes, count-mono, count-less}
-use Rattle.folds.proofs.First.{first-below, first-has, first-le}
+use Rattle.folds.proofs.First.{first-below, first-has, first-le, first-same}
 use Rattle.folds.proofs.Joined.{joined-part, joined-mono, rows-at}
-use Rattle.folds.proofs.Gather.{gather-length}
-use Rattle.lent.specs.Lent.{setNumber, WritesOnto}
-use Rattle.lent.proofs.Lent.{writes-byte}
+use Rattle.folds.proofs.Gather.{gather-length, gather-get}
 use Rattle.sets.specs.Sets.{has}
 use Rattle.table.specs.Table.{outputAt, columns}
 use Rattle.table.specs.declared.Table.{Table}
 use Rattle.table.specs.declared.Written.the-variants.{Bytes}
 use Rattle.terms.specs.Columns.{agrees, alike, lowest, lowestOf, classNumber, outputsUnder}
 use Rattle.terms.specs.Terms.{classOf, classCount}
-use Rattle.terms_laws.proofs.Classes.{gather-get, alike-at, alike-sym, lowest-le, lowest-alike, lowest-of, class-lowest, signature-of, signature-at}
+use Rattle.terms_laws.proofs.Classes.{alike-at, alike-sym, lowest-le, lowest-alike, lowest-of, class-lowest, signature-of, signature-at}
+use Rattle.lent.specs.Lent.{setNumber, WritesOnto}
+use Rattle.lent.proofs.Lent.{writes-byte}
 use Rattle.witness.specs.Witness.{separates, lowestTest, witnessOf, above, witnesses, sheetUnder, sheetOf}
 use Rattle.witness.proofs.Rows.{witness-found, witness-none, above-count}
 use Rattle.witness.proofs.Size.{rowsTo, rows-sum, sheet-size}
-
--- tests that agree have one lowest number
-first-same : (p q : ℕ → Bool) (n : ℕ) → ((i : ℕ) → i < n → p i ≡ q i) → first p n ≡ first q n
-unfolding first
-first-same p q zero e = refl
-first-same p q (suc n) e = rw (e zero (omega arith), first-same (λ i. p (suc i)) (λ i. q (suc i)) n (λ i w. e (suc i) (omega arith)))
 
 -- the bytes before the row of class i of k, from twice their number
 row-place : (i k sum : ℕ) → 2 * sum + (i * i + i) ≡ 2 * (i * k) → sum ≡ i * (2 * k - i - 1) / 2

@@ -1,19 +1,20 @@
 -- The rows of the sheet: what the code's tests say, and how many bytes each row has. Assumes nothing.
 use mathlib.Core.Bool.{Bool, true, false}
 use mathlib.Core.Logic.{⊎-elim}
-use mathlib.Core.Path.{_≡_, refl, sym, ap, _∙_}
+use mathlib.Core.Path.{_≡_, sym, ap, _∙_}
 use Prim.Native.Nat.{ℕ, zero, suc, _+_, _-_, _≤_, _<_}
+use native.Mathlib.Numerals.{add-one}
 use native.Mathlib.Omega.{arith}
 use borrow.Author.Tests.{lt-ltb, le-ltb}
 use lib.ListN.{length}
 use Rattle.folds.specs.Fold.{count}
 use Rattle.folds.proofs.Below.{below-cases}
-use Rattle.folds.proofs.Count.{count-none, count-yes, count-no, count-less}
+use Rattle.folds.proofs.Count.{count-none, count-more, count-yes, count-no, count-less}
 use Rattle.folds.proofs.Gather.{gather-length}
 use Rattle.sets.specs.Sets.{has}
+use Rattle.sets.specs.Collect.{setOf}
+use Rattle.sets.proofs.Collect.{set-tells}
 use Rattle.terms.specs.Columns.{lowest}
-use Rattle.classes.specs.Sets.{setOf}
-use Rattle.classes.proofs.Sets.{set-has}
 use Rattle.witness.specs.Witness.{aboveIn, lowestTest, witnessOf, above, witnesses}
 
 module _ (out : ℕ → ℕ → ℕ) (tests : ℕ) where
@@ -30,11 +31,11 @@ module _ (out : ℕ → ℕ → ℕ) (tests : ℕ) where
   -- ---- the set of the lowest columns answers for them
 
   pub low-in : (n lows i : ℕ) (r : Bool) → lows ≡ setOf (lowest out tests) n → i < n → r ≡ has lows i → r ≡ lowest out tests i
-  low-in n lows i r e w h = h ∙ rw e (set-has (lowest out tests) n i w)
+  low-in n lows i r e w h = h ∙ rw e (set-tells (lowest out tests) n i w)
 
   pub above-in : (n lows a i : ℕ) (r : Bool) → lows ≡ setOf (lowest out tests) n → i < n → r ≡ aboveIn lows a i → r ≡ above out tests a i
   unfolding aboveIn above
-  above-in n lows a i r e w h = h ∙ rw (e, set-has (lowest out tests) n i w)
+  above-in n lows a i r e w h = h ∙ rw (e, set-tells (lowest out tests) n i w)
 
   -- ---- how many classes are above that of column a
 
@@ -47,17 +48,19 @@ module _ (out : ℕ → ℕ → ℕ) (tests : ℕ) where
   above-no a i w = rw (le-ltb a i w)
 
   above-low : (a i : ℕ) → i ≤ a + 1 → count (above out tests a) i ≡ 0
-  unfolding count
-  above-low a zero w = refl
-  above-low a (suc i) w = rw (above-low a i (omega arith), above-no a i (omega arith))
+  above-low a zero w = count-none (above out tests a)
+  above-low a (suc i) w =
+      let q : count (above out tests a) (i + 1) ≡ count (above out tests a) (suc i) = ap (count (above out tests a)) (add-one i) in
+      omega (arith, above-low a i (omega arith), count-no (above out tests a) i (above-no a i (omega arith)))
 
   pub above-count : (a n : ℕ) → a < n → count (above out tests a) n + count (lowest out tests) (a + 1) ≡ count (lowest out tests) n
-  unfolding count
   above-count a zero w = absurd (omega arith)
   above-count a (suc n) w =
+      let p : count (above out tests a) (n + 1) ≡ count (above out tests a) (suc n) = ap (count (above out tests a)) (add-one n) in
+      let q : count (lowest out tests) (n + 1) ≡ count (lowest out tests) (suc n) = ap (count (lowest out tests)) (add-one n) in
       ⊎-elim
-      (λ v. rw (above-yes a n v) (omega (arith, above-count a n v)))
-      (λ (e : a ≡ n). let q : a + 1 ≡ suc n = omega arith in omega (arith, above-low a (suc n) (omega arith), ap (count (lowest out tests)) q))
+      (λ v. omega (arith, above-count a n v, rw (above-yes a n v) at (count-more (above out tests a) n), count-more (lowest out tests) n))
+      (λ (e : a ≡ n). let r : a + 1 ≡ suc n = omega arith in omega (arith, above-low a (suc n) (omega arith), ap (count (lowest out tests)) r))
       (below-cases a n w)
 
   module _ (s n : ℕ) where

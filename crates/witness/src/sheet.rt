@@ -5,7 +5,7 @@ ghost use lib.ListN.{length};
 ghost use Rattle.folds.specs.Fold.{count, onto};
 ghost use Rattle.table.specs.Table.{cellAt};
 ghost use Rattle.terms.specs.Columns.{lowest};
-ghost use Rattle.classes.specs.Sets.{setOf};
+ghost use Rattle.sets.specs.Collect.{setOf};
 ghost use Rattle.witness.specs.Witness.{separates, witnessOf, above, aboveIn, witnesses, sheetUnder};
 
 // Whether test t is in the set and separates the columns a and b.

@@ -2,7 +2,7 @@ use mathlib.Core.Logic.{inl, inr}
 use mathlib.Core.Path.{refl}
 use borrow.Author.Needs.{needs}
 use Rattle.table.specs.WellFormed.{WellFormed}
-use Rattle.cover.proofs.Well.{well, ill}
+use Rattle.table.proofs.Formed.{well, ill}
 use Rattle.choice.proofs.Root.{capped}
 use Rattle.choice.proofs.choose.Statement.{statement}
 use Rattle.choice.proofs.choose.Tie as tie

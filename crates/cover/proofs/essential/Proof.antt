@@ -1,6 +1,6 @@
 use mathlib.Core.Path.{refl}
 use borrow.Author.Needs.{needs}
-use Rattle.cover.proofs.Well.{well, ill}
+use Rattle.table.proofs.Formed.{well, ill}
 use Rattle.cover.proofs.Aside.{essential-exactly}
 use Rattle.cover.proofs.essential.Statement.{statement}
 use Rattle.cover.proofs.essential.Tie as tie

@@ -1,6 +1,5 @@
 use borrow.Author.Needs.{needs}
-use Rattle.cover.specs.Answer.{keptSet}
-use Rattle.cover.proofs.Fill.{filled-take, filled-fits, filled-part}
+use Rattle.cover.proofs.Fill.{filled-fits, filled-part, filled-kept}
 use Rattle.cover.proofs.kept_for.Statement.{statement}
 use Rattle.cover.proofs.kept_for.Tie as tie
 
@@ -17,8 +16,7 @@ kept-tests-requires : tie.Need-kept-tests-requires
 kept-tests-requires c κs = search needs
 
 returns : tie.Need-returns
-unfolding keptSet
-returns c = rw (← filled-take _ _ _ (c .before .before .before .masks-of .ensures)) (c .kept-tests .ensures)
+returns c = filled-kept _ _ _ (c .before .before .before .masks-of .ensures) _ (c .kept-tests .ensures)
 
 pub kept-for-spec : {M : Type 1} → statement M
 kept-for-spec =

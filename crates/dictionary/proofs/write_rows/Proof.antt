@@ -5,8 +5,7 @@ use borrow.Author.Needs.{needs}
 use lib.ListN.{length}
 use Rattle.folds.proofs.Joined.{rows-at, rows-stay, rows-put, rows-pass, rows-end, rows-zero, rows-start, rows-room}
 use Rattle.folds.specs.Fold.{onto}
-use Rattle.folds.proofs.Onto.{keeps, part-length, kept-part}
-use Rattle.lent.proofs.Lent.{part-fits}
+use Rattle.folds.proofs.Onto.{keeps, part-length, kept-part, part-fits}
 use Rattle.table.specs.Table.{cellAt}
 use Rattle.dictionary.specs.Dictionary.{rowsUnder}
 use Rattle.dictionary.proofs.Rows.{row-size}

@@ -4,7 +4,7 @@ use native.Mathlib.Numerals.{add-one}
 use native.Mathlib.Omega.{arith}
 use borrow.Author.Needs.{needs}
 use Rattle.book.specs.Grow.{filled}
-use Rattle.book.proofs.Places.{placed}
+use Rattle.table.proofs.Cells.{place-below}
 use Rattle.book.proofs.grow.filled.Statement.{statement}
 use Rattle.book.proofs.grow.filled.Tie as tie
 
@@ -25,7 +25,7 @@ place-requires : tie.Need-place-requires Inv-loop μ-loop
 place-requires c κs = search needs
 
 array-write-next : tie.Need-array-write-next Inv-loop μ-loop
-array-write-next c = let h = placed _ _ _ (c .place .ensures) (omega arith) (omega arith) in search needs
+array-write-next c = let h = place-below _ _ _ (c .place .ensures) (omega arith) (omega arith) in search needs
 
 add-t : tie.Need-add-t Inv-loop μ-loop
 add-t c = search needs

@@ -1,6 +1,6 @@
 use native.Mathlib.Omega.{arith}
 use borrow.Author.Needs.{needs}
-use Rattle.book.proofs.Places.{placed}
+use Rattle.table.proofs.Cells.{place-below}
 use Rattle.book.proofs.grow.with_response.Statement.{statement}
 use Rattle.book.proofs.grow.with_response.Tie as tie
 
@@ -11,7 +11,7 @@ place-requires : tie.Need-place-requires
 place-requires c κs = search needs
 
 element-write-next : tie.Need-element-write-next
-element-write-next c = let h = placed _ _ _ (c .place .ensures) (omega arith) (omega arith) in search needs
+element-write-next c = let h = place-below _ _ _ (c .place .ensures) (omega arith) (omega arith) in search needs
 
 returns : tie.Need-returns
 returns c = rw (c .place .ensures)

@@ -1,5 +1,5 @@
 use borrow.Author.Needs.{needs}
-use Rattle.book.proofs.Places.{placed}
+use Rattle.table.proofs.Cells.{place-below}
 use Rattle.book.proofs.grow.with_test.Statement.{statement}
 use Rattle.book.proofs.grow.with_test.Tie as tie
 
@@ -7,7 +7,7 @@ place-requires : tie.Need-place-requires
 place-requires c κs = search needs
 
 element-write-next : tie.Need-element-write-next
-element-write-next c = search (needs, placed)
+element-write-next c = search (needs, place-below)
 
 add-next : tie.Need-add-next
 add-next c = search needs

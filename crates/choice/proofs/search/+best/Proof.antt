@@ -8,11 +8,14 @@ use borrow.Fn.PlainCycle.{Measures, is, falls, and}
 use lib.ListN.{length}
 use Rattle.sets.specs.Sets.{bit, one}
 use Rattle.sets.proofs.Bits.{has-bit, lacks-bit}
+use Rattle.choice.specs.Search.{Node}
+use Rattle.sets.proofs.Collect.{with-in}
+use Rattle.sets.proofs.Weight.{one-is, one-positive}
+use Rattle.choice.proofs.search.+best.{statement}
+use Rattle.choice.proofs.search.+best.Tie.{close}
 use Rattle.sets.proofs.inner.has.Reads as has-reads
 use Rattle.cover.proofs.inner.with_test.Reads as with-test-reads
-use Rattle.choice.specs.Search.{Node}
 use Rattle.choice.proofs.Tree as tree
-use Rattle.choice.proofs.Root.{one-positive, one-is}
 use Rattle.choice.proofs.search.best.Reads as best
 use Rattle.choice.proofs.search.best.Kinds as best-kinds
 use Rattle.choice.proofs.search.+best.Lts-best as best-lts
@@ -21,8 +24,6 @@ use Rattle.choice.proofs.search.limit_after.Reads as limit-after-reads
 use Rattle.choice.proofs.search.or_else.Reads as or-else-reads
 use Rattle.choice.proofs.search.still_needed.Reads as still-needed-reads
 use Rattle.choice.proofs.search.weight_of.Reads as weight-of-reads
-use Rattle.choice.proofs.search.+best.{statement}
-use Rattle.choice.proofs.search.+best.Tie.{close}
 
 abbrev μ-best : Measures 1 best-kinds.ps ℕ
 μ-best κs a = 24 - a .1 .1 .1 .0
@@ -130,7 +131,7 @@ best-add-best-3 : (t : ℕ) → best-lts.Need-add-best-3 (callees t) (best-at t)
 best-add-best-3 t c = omega (arith, c .weight-of .ensures, one-is (c .before .before .before .before .before .before .before .before .before .before .before .args .t), c .before .before .before .before .before .before .before .before .before .if1 .left, c .before .before .before .before .before .before .before .before .before .before .before .pre .1 .1)
 
 best-best-requires-2 : (t : ℕ) → best-lts.Need-best-requires-2 (callees t) (best-at t) best.Post
-best-best-requires-2 t c κs = (fewer t (c .before .before .before .before .before .before), (rw (c .before .with-test .ensures, tree.taken, c .weight-of .ensures) («in» t (c .before .before .before .before .before .before)), c .before .before .before .before .before .before .before .before .before .before .before .pre .1 .1))
+best-best-requires-2 t c κs = (fewer t (c .before .before .before .before .before .before), (rw (c .before .with-test .ensures, with-in, c .weight-of .ensures) («in» t (c .before .before .before .before .before .before)), c .before .before .before .before .before .before .before .before .before .before .before .pre .1 .1))
 
 best-add-best-4 : (t : ℕ) → best-lts.Need-add-best-4 (callees t) (best-at t) best.Post
 best-add-best-4 t c = omega (arith, deep t (c .before .before .before .before .before .before .before))
@@ -156,7 +157,7 @@ best-returns-6 t c =
     let a = c .before .before .before .before .before .before .before .before .before .before .before .before .before .before .before .args in
     rw (c .or-else .ensures)
     (tree.best-join one (a .masks .now) _ _ _ (c .before .before .before .before .before .before .before .before .before .before .before .before .before .before .before .pre .1 .0 .decided) (a .limit) (c .before .before .before .best2 .result) (c .before .best3 .result) (is-kept t (c .before .before .before .before .before .before))
-    (rw (c .before .before .before .before .before .with-test .ensures, tree.taken) at (c .before .before .before .best2 .ensures))
+    (rw (c .before .before .before .before .before .with-test .ensures, with-in) at (c .before .before .before .best2 .ensures))
     (rw (c .before .before .limit-after .ensures) at (c .before .best3 .ensures)))
 
 pub +best-spec : {M : Type 1} → statement M

@@ -3,7 +3,7 @@ use borrow.Author.Needs.{needs}
 use lib.ListN.{length}
 use Rattle.sets.specs.Sets.{one}
 use Rattle.choice.proofs.Bound.{Covered, covered-none, covered-needs, covered-more}
-use Rattle.choice.proofs.Root.{one-positive}
+use Rattle.sets.proofs.Weight.{one-positive}
 use Rattle.choice.proofs.search.still_needed.Statement.{statement}
 use Rattle.choice.proofs.search.still_needed.Tie as tie
 

@@ -1,9 +1,9 @@
 use mathlib.Core.Path.{_≡_}
 use Prim.Native.Nat.{_≤_, _-_}
 use borrow.Author.Needs.{needs}
-use Rattle.cover.proofs.Collect.{set-turn, collects, set-start}
+use Rattle.sets.proofs.Collect.{set-turn, collects, set-start}
 use Rattle.cover.specs.Kept.{kept}
-use Rattle.cover.specs.Collect.{setOf}
+use Rattle.sets.specs.Collect.{setOf}
 use Rattle.cover.proofs.inner.kept_tests.Statement.{statement}
 use Rattle.cover.proofs.inner.kept_tests.Tie as tie
 

@@ -1,8 +1,6 @@
 use native.Mathlib.Omega.{arith}
-use native.Mathlib.Nat.{add-zero}
 use borrow.Author.Needs.{needs}
-use Rattle.cover.specs.Collect.{withTest}
-use Rattle.cover.proofs.Collect.{one-shl, top-fits}
+use Rattle.sets.proofs.Collect.{with-in, with-out, one-shl, top-fits}
 use Rattle.cover.proofs.inner.with_test.Statement.{statement}
 use Rattle.cover.proofs.inner.with_test.Tie as tie
 
@@ -13,15 +11,13 @@ shl-result : tie.Need-shl-result
 shl-result c = search needs
 
 add-result : tie.Need-add-result
-add-result c = rw (one-shl (c .before .args .t) (omega arith)) (omega (arith, top-fits _ _ (c .before .pre .0) (c .before .pre .1)))
+add-result c = rw (one-shl 32 (c .before .args .t) (omega arith)) (omega (arith, top-fits 24 _ _ (c .before .pre .0) (c .before .pre .1)))
 
 returns : tie.Need-returns
-unfolding withTest
-returns c = rw (one-shl (c .before .args .t) (omega arith), c .if1 .taken)
+returns c = rw (one-shl 32 (c .before .args .t) (omega arith), c .if1 .taken, with-in)
 
 returns-2 : tie.Need-returns-2
-unfolding withTest
-returns-2 c = rw (c .if1 .left, add-zero)
+returns-2 c = rw (c .if1 .left, with-out)
 
 pub with-test-spec : {M : Type 1} → statement M
 with-test-spec = tie.close (tie.spec cast-result shl-result add-result returns returns-2)

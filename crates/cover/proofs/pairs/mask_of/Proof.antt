@@ -1,10 +1,10 @@
 use mathlib.Core.Path.{_≡_}
 use Prim.Native.Nat.{_≤_, _-_}
 use borrow.Author.Needs.{needs}
-use Rattle.cover.proofs.Collect.{set-turn, collects, set-start}
+use Rattle.sets.proofs.Collect.{set-turn, collects, set-start}
 use Rattle.table.specs.Table.{cellAt}
 use Rattle.cover.specs.Masks.{differs, maskOf}
-use Rattle.cover.specs.Collect.{setOf}
+use Rattle.sets.specs.Collect.{setOf}
 use Rattle.cover.proofs.pairs.mask_of.Statement.{statement}
 use Rattle.cover.proofs.pairs.mask_of.Tie as tie
 

@@ -3,8 +3,8 @@ use mathlib.Core.Bool.{false}
 use Prim.Native.Nat.{_≤_, _-_}
 use borrow.Author.Needs.{needs}
 use Rattle.cover.specs.Kept.{outdone, outdoneBy}
-use Rattle.cover.specs.Collect.{some}
-use Rattle.cover.proofs.Collect.{finds}
+use Rattle.folds.specs.Fold.{some}
+use Rattle.folds.proofs.Some.{finds}
 use Rattle.cover.proofs.weigh.outdone.Statement.{statement}
 use Rattle.cover.proofs.weigh.outdone.Tie as tie
 

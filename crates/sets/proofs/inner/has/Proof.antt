@@ -1,5 +1,5 @@
 use borrow.Author.Needs.{needs}
-use Rattle.sets.specs.Sets.{bit, has}
+use Rattle.sets.proofs.Bits.{has-shift}
 use Rattle.sets.proofs.inner.has.Statement.{statement}
 use Rattle.sets.proofs.inner.has.Tie as tie
 
@@ -10,8 +10,7 @@ shr-result : tie.Need-shr-result
 shr-result c = search needs
 
 returns : tie.Need-returns
-unfolding has bit
-returns c = search needs
+returns c = has-shift _ _
 
 pub has-spec : {M : Type 1} → statement M
 has-spec = tie.close (tie.spec cast-result shr-result returns)

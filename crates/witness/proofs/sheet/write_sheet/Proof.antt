@@ -5,8 +5,7 @@ use borrow.Author.Needs.{needs}
 use lib.ListN.{length}
 use Rattle.folds.specs.Fold.{count, joined, onto}
 use Rattle.folds.proofs.Joined.{rows-zero, rows-start, rows-room, rows-at, rows-stay, rows-put, rows-pass, rows-end}
-use Rattle.folds.proofs.Onto.{keeps, part-length, kept-part}
-use Rattle.lent.proofs.Lent.{part-fits}
+use Rattle.folds.proofs.Onto.{keeps, part-length, kept-part, part-fits}
 use Rattle.table.specs.Table.{cellAt}
 use Rattle.terms.specs.Columns.{lowest}
 use Rattle.witness.specs.Witness.{witnesses}

@@ -4,13 +4,13 @@ use mathlib.Core.Logic.{⊎-elim}
 use mathlib.Core.Path.{_≡_, sym, _∙_}
 use Prim.Native.Nat.{ℕ, _+_, _*_, _/_, _%_, _≤_, _<_}
 use native.Mathlib.Omega.{arith}
-use lib.ListN.{length, getD, set, replicate, length-replicate, getD-replicate, List·getD-eq-default}
+use lib.ListN.{length, getD, set, List·getD-eq-default}
 use lib.Seq.{getD-set-same, getD-set-other, ext-getD, set-out}
 use Rattle.folds.specs.Fold.{listed}
 use Rattle.folds.proofs.Gather.{listed-length, listed-get}
 use Rattle.folds.proofs.Below.{lt-or-ge, eq-or-ne}
 use Rattle.table.specs.Table.{placeOf, cellAt}
 use Rattle.table.proofs.Cells.{place-fits, place-test, place-column}
 
 -- a store at a place, read there
 pub cell-here : (cells : List ℕ) (t c v : ℕ) → length cells ≡ 1464 → t < 24 → c < 61 → cellAt (set cells (placeOf t c) v) t c ≡ v
@@ -34,20 +34,6 @@ cells-same a b l m h =
     ext-getD 0 a b (l ∙ sym m) λ k n.
     let p = place-back k (rw l at n) in
     rw (p .4) at (h (p .0) (p .1) (p .2) (p .3))
-
-zeros : (n i : ℕ) → getD {A = ℕ} (replicate n 0) i 0 ≡ 0
-zeros n i =
-    ⊎-elim (λ h. getD-replicate n i 0 0 h) (λ h. List·getD-eq-default (replicate n 0) 0 (rw length-replicate h)) (lt-or-ge i n)
-
-pub zero-label : (f : ℕ) → getD {A = ℕ} (replicate 60 0) f 0 ≡ 0
-zero-label f = zeros 60 f
-
-pub zero-byte : (i : ℕ) → getD {A = ℕ} (replicate 1464 0) i 0 ≡ 0
-zero-byte i = zeros 1464 i
-
-pub zero-cell : (t c : ℕ) → cellAt (replicate 1464 0) t c ≡ 0
-unfolding cellAt
-zero-cell t c = zeros 1464 (placeOf t c)
 
 -- what stands in a list after a store, by whether it is the place stored to
 pub stored : (P : ℕ → Type 0) (xs : List ℕ) (i v k : ℕ) → i < length xs → (k ≡ i → P v) → ((k ≡ i → ⊥) → P (getD xs k 0)) → P (getD (set xs i v) k 0)
