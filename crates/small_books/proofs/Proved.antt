@@ -1,4 +1,4 @@
--- Document 01's starred small books: one claim, computed. Assumes nothing.
+-- Document 01's starred small books: one claim, computed over the whole list. Assumes nothing.
 use mathlib.Core.Bool.{true}
 use mathlib.Core.Path.{_≡_, refl}
 use Rattle.folds.specs.Fold.{always, count, every, joined, single, total}

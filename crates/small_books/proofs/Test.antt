@@ -19,7 +19,7 @@ use Rattle.book.specs.Reading.{readBook}
 use Rattle.table.specs.Answers.{numberOf, verdictNumber}
 use Rattle.table.specs.WellFormed.{WellFormed}
 use Rattle.table.specs.declared.Reading.{Reading}
-use Rattle.small_books.specs.Claim.{Saying, classes, choice, aside, capped, True, AllTrue, Entry, Holds, AllHold}
+use Rattle.small_books.specs.Claim.{Saying, classes, choice, aside, capped, TrueOf, AllTrue, Entry, Holds, AllHold}
 use Rattle.table.specs.declared.Chosen.{Chosen}
 use Rattle.table.specs.declared.Chosen.the-variants.{Tests, Refused}
 use Rattle.table.specs.declared.Goal.{Goal}
@@ -45,6 +45,7 @@ module _ (s s' : ℕ) where
   unfoldable pub leadsIn : ℕ → Bool
   leadsIn t = both (has s t) (both (not (has s' t)) (every sameIn t))
 
+  -- s has fewer tests; or as many, and is the same set or an earlier one
   unfoldable pub precedes : Bool
   precedes = either (ltb (size s) (size s')) (both (eqb (size s) (size s')) (either (eqb s s') (some leadsIn 24)))
 
@@ -74,6 +75,7 @@ module _ (s s' : ℕ) where
 -- ---- sets that hit every mask
 
 module _ (masks : List ℕ) where
+  -- the mask at k shares a test with s
   unfoldable pub hitsAt : ℕ → ℕ → Bool
   hitsAt s k = not (eqb (bitAnd (getD masks k 0) s) 0)
 
@@ -129,7 +131,7 @@ module _ (tb : Table) (goal : Goal) where
   unfoldable pub exceeds : ℕ → ℕ → Bool
   exceeds cap s = ltb cap (size s)
 
-  -- within the sizes, what the cap gives is r: a choice within it, or 23
+  -- the cap gives r: the choice, which is within it, or 23, where no set within it reaches the goal
   unfoldable pub capGives : ℕ → Chosen → Bool
   capGives cap (Tests s) = both (isChoice s) (leb (size s) cap)
   capGives cap (Refused why) = both (eqb (numberOf why) 23) (eachReaching (exceeds cap))
@@ -162,7 +164,7 @@ isTrue tb (choice goal s) = isChoice tb goal s
 isTrue tb (aside goal s) = isAside tb goal s
 isTrue tb (capped goal cap r) = isCapped tb goal cap r
 
-true-by : (tb : Table) (x : Saying) → isTrue tb x ≡ true → True tb x
+true-by : (tb : Table) (x : Saying) → isTrue tb x ≡ true → TrueOf tb x
 unfolding isTrue
 true-by tb (classes n) h = eqb-true _ _ h
 true-by tb (choice goal s) h = choice-by tb goal s h

@@ -24,15 +24,15 @@ pub data Saying : Type 0 where
   capped : Goal → ℕ → Chosen → Saying
 
 -- the saying is true of the table
-abbrev pub True : Table → Saying → Type 0
-True tb (classes n) = classCount tb ≡ n
-True tb (choice goal s) = Choice tb goal s
-True tb (aside goal s) = Exactly (AsideTest tb goal) s
-True tb (capped goal cap r) = ChoiceIs tb goal cap r
+abbrev pub TrueOf : Table → Saying → Type 0
+TrueOf tb (classes n) = classCount tb ≡ n
+TrueOf tb (choice goal s) = Choice tb goal s
+TrueOf tb (aside goal s) = Exactly (AsideTest tb goal) s
+TrueOf tb (capped goal cap r) = ChoiceIs tb goal cap r
 
 abbrev pub AllTrue : Table → List Saying → Type 0
 AllTrue tb [] = Unit {0}
-AllTrue tb (x ∷ xs) = True tb x × AllTrue tb xs
+AllTrue tb (x ∷ xs) = TrueOf tb x × AllTrue tb xs
 
 -- a book, the number and the place of its reading, and what is said of its table
 pub record Entry : Type 0 where

@@ -53,6 +53,7 @@ fn sheets(table: Table, set: u32) {
 }
 
 pub fn full_adder() {
+    io::write_all(1, b"full adder\n");
     let table = adder::full_adder();
     show::card(table);
     io::write_all(1, b"class of each column");

@@ -82,15 +82,13 @@ pub fn card(table: Table) {
 
 // Whether a reading was accepted, and its place.
 pub fn reading(r: Reading) {
+    io::write_all(1, b"book");
     let verdict = r.verdict;
     match verdict {
         Verdict::Accepted => {
-            io::write_all(1, b"accepted");
+            io::write_all(1, b" accepted");
         }
-        Verdict::Refused(why) => {
-            io::write_all(1, b"refused");
-            byte(table::number(why));
-        }
+        Verdict::Refused(why) => refusal(why),
     }
     io::write_all(1, b" at");
     number(r.place as u64);
