@@ -15,6 +15,7 @@ first. One table is at hand; a case that gives a table puts it there.
     D set size fill   the dictionary, in a buffer of size bytes that hold fill (four bytes, two, one)
     E              the empty table
     F fields       a table by its fields: 8 bytes for each count, 1,464 cells, 60 lines, 60 stuck values
+    O size fill book   the report, in a buffer of size bytes that hold fill (two bytes, one)
     P book         a book record by record, by both readers
     Q              well formed or not, classes, undetectable faults, set-aside and essential tests
     R place fault test stage book   one record after the table at hand and a stage (8 bytes, 8, 8, one)
@@ -156,6 +157,18 @@ class Cases:
 
     def sheet(self, chosen, size, fill):
         self.lent('W', ref.witness_sheet, chosen, size, fill)
+
+    def report(self, book, size, fill):
+        text = ref.report(book)
+        short = size < len(text)
+        if short:
+            self.count(24)
+        buffer = bytes([fill]) * size if short else text + bytes([fill]) * (size - len(text))
+        answers = [24, 0] if short else [0, len(text)]
+        answers.append(mixed(0, buffer))
+        if size <= 24:
+            answers += buffer
+        self.add('O', size.to_bytes(2, 'little') + bytes([fill]) + book, answers)
 
     def suspects(self, chosen, outputs):
         number, count, columns = ref.suspects_of(self.table, chosen, outputs)
@@ -451,8 +464,12 @@ def wrong_records(chance):
     if after:
         yield b''.join(heads + answers[:after]) + answers[chance.below(after)] + rest(chance)
         yield b''.join(heads + answers[:after]) + bytes([R, 0, 0, chance.below(256)]) + rest(chance)
+        fault, test = answers[after - 1][2], chance.below(answers[after - 1][1] + 1)
+        yield b''.join(heads + answers[:after]) + bytes([R, test, fault, ref.cell(table, test, 0)]) + rest(chance)
+        yield b''.join(heads + answers[:after]) + bytes([R, tests, 0, 0]) + rest(chance)
     yield b''.join(heads) + bytes([R, 0, faults - 1, ref.cell(table, 0, 0)]) + rest(chance)
     yield b''.join(records[:-1]) + bytes([E, tests + chance.below(2), faults + 1]) + rest(chance)
+    yield b''.join(records[:-1]) + bytes([E, tests + 1, faults]) + rest(chance)
     yield b''.join(records[:-1]) + bytes([E, chance.below(256), chance.below(256)]) + rest(chance)
     yield b''.join(records) + bytes([chance.of((T, F, R, E, 0, 255))]) + rest(chance)
 
@@ -466,6 +483,7 @@ def too_many(chance):
     yield tests + bytes([T])
     yield tests + bytes([F, 1, 0, T, chance.below(256)])
     yield tests[:2 * few] + faults + bytes([F, chance.below(256), chance.below(3)]) + rest(chance)
+    yield faults + bytes([F, 1, 1])
     yield faults + bytes([F, 1])
     yield tests + bytes([E, 24, 0])
     yield faults + bytes([E, 0, 60])
@@ -566,6 +584,33 @@ def record_by_record(cases, chance):
             cases.record(place, stage, b'')
 
 
+def long_text():
+    """Each fault differs in one test, and the choice needs every test."""
+    table = ref.empty_table()
+    table.tests, table.faults = 17, ref.MAX_FAULTS
+    for t in range(table.tests):
+        for c in range(table.faults + 1):
+            table.cells[t * ref.COLUMNS + c] = 100 + t
+    for f in range(table.faults):
+        table.lines[f], table.stuck[f] = 190 + f, f % 2
+        table.cells[f % table.tests * ref.COLUMNS + f + 1] = 200 + f % 50
+    return table
+
+
+def reports(cases, chance):
+    """The text of good books and of wrong ones, in buffers short, exact and long."""
+    books = [b'', book_of(longest()), book_of(longest()) + b'E', book_of(long_text()), book_of(ref.full_adder())]
+    for style in STYLES * 4:
+        tests, faults = small_size(chance)
+        books.append(book_of(random_table(chance, tests, faults, style)))
+        books.append(damaged(chance, books[-1]))
+    books += wrong_records(chance)
+    for book in books:
+        size = len(ref.report(book))
+        for lent in sorted({size, size - 1, size + 4, chance.of((0, 1, size + 300))}):
+            cases.report(book, lent, chance.of((0xa5, 0, 255, 10)))
+
+
 def make():
     cases, chance = Cases(), Chance(1968)
     whole_books(cases, chance)
@@ -574,6 +619,7 @@ def make():
     good_tables(cases, chance)
     spoiled_tables(cases, chance)
     large_tables(cases, chance)
+    reports(cases, chance)
     return cases
 
 

@@ -1,3 +1,4 @@
 pub mod Fill
 pub mod Rule
+pub mod Book
 pub mod Pins

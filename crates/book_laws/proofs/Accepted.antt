@@ -1,12 +1,10 @@
 -- The reader accepts the books of well-formed tables, and no others. Assumes nothing.
-use mathlib.Core.Bool.{true}
 use mathlib.Core.List.{List, [], _++_}
 use mathlib.Core.Path.{_≡_, refl, sym, ap, _∙_}
 use Prim.Native.Nat.{ℕ, _≤_}
 use native.Mathlib.Omega.{arith}
-use borrow.Author.Tests.{le-leb, le-ltb, eqb-true}
-use lib.Dec.{eqb}
-use lib.ListN.{length, take, length-drop}
+use borrow.Author.Tests.{le-leb, le-ltb}
+use lib.ListN.{length, length-drop}
 use lib.Seq.{take-all}
 use Rattle.table.specs.WellFormed.{WellFormed, OfType}
 use Rattle.table.specs.declared.Reading.{Reading}
@@ -18,25 +16,20 @@ use Rattle.book.specs.Reading.{readBook}
 use Rattle.book.specs.Step.{recordBytes, rankOf, acceptedAt, firstOf, edgeRule, ruleAt, stepAt}
 use Rattle.book.specs.declared.Record.the-variants.{End}
 use Rattle.book.specs.declared.Stage.{Stage}
-use Rattle.book.specs.declared.Stage.the-variants.{Tests, Faults, Responses, Ended}
+use Rattle.book.specs.declared.Stage.the-variants.{Ended}
 use Rattle.book_laws.specs.Accepts.{Accepts}
 use Rattle.book_laws.proofs.Along.{so, Along, go-on, end-step}
-use Rattle.book_laws.proofs.Good.{bytesRead, reached-good}
+use Rattle.book_laws.proofs.Good.{ended, reached-good}
 use Rattle.book_laws.proofs.Grown.{Long}
 use Rattle.book_laws.proofs.Readings.{Ends, refused, accepted, ends, accepted-reading}
 use Rattle.book_laws.proofs.Round.{run}
 
 -- ---- an accepted book is its table's
+-- what an accepted book gave; its table is of the type where the book is made of bytes
 pub record Gave (book : List ℕ) (tb : Table) : Type 0 where
   pub formed : WellFormed tb
   pub typed : Bytes book → OfType tb
   pub is-book : book ≡ bookOf tb
-
-ended-book : (book : List ℕ) (place : ℕ) (stage : Stage) (tb : Table) → length book ≤ place → eqb (rankOf stage) 3 ≡ true → take place book ≡ bytesRead stage tb → book ≡ bookOf tb
-ended-book book place Tests tb l u e = absurd (omega (arith, eqb-true 0 3 u))
-ended-book book place Faults tb l u e = absurd (omega (arith, eqb-true 1 3 u))
-ended-book book place (Responses f t) tb l u e = absurd (omega (arith, eqb-true 2 3 u))
-ended-book book place Ended tb l u e = sym (take-all place book l) ∙ e
 
 pub accepted-gave : (book : List ℕ) (tb : Table) → Accepts book tb → Gave book tb
 accepted-gave book tb h = go (ends book) h
@@ -52,7 +45,7 @@ accepted-gave book tb h = go (ends book) h
         record {
           formed = rw same at (g .formed);
           typed = λ b. rw same at (g .typed b);
-          is-book = rw same at (ended-book book place (sofar .stage) (sofar .table) l u (g .taken));
+          is-book = rw same at (sym (take-all place book l) ∙ g .taken ∙ ended (sofar .stage) (sofar .table) u);
         }
 
 -- an accepted verdict comes with the book's length

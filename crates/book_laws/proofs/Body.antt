@@ -95,7 +95,7 @@ module _ (tb : Table) (long : Long tb) (x : ℕ) (h : tb .tests < 24) where
 
   pub body-test : tb .faults ≡ 0 → bodyOf (withTest tb x) ≡ bodyOf tb ++ recordBytes (Test x)
   unfolding bodyOf
-  body-test z = rw (no-faults (withTest tb x) z, no-faults tb z, append-nil, append-nil) tests-more
+  body-test z = rw (no-faults (withTest tb x) z, no-faults tb z) (simp append-nil tests-more)
 
 -- ---- what a fault adds
 

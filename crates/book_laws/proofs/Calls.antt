@@ -1,6 +1,4 @@
--- The call that gives one record after the other: 20 exactly when no start of a book gives the reading so far or the place is
--- past the book's end; its records are the book's; and from the start its answers are those of the whole reading.
--- Assumes nothing.
+-- The call that gives one record after the other. The sentences are document 01's. Assumes nothing.
 use mathlib.Core.Bool.{Bool, true, false, not}
 use mathlib.Core.List.{List}
 use mathlib.Core.Logic.{_⊎_, inl, inr}
@@ -37,7 +35,7 @@ module _ (book : List ℕ) (place : ℕ) (sofar : SoFar) where
   unfolding recordAt callRule stepAt firstOf
   call-step h l = rw (h, le-ltb (length book) place l)
 
-  -- ---- 20
+  -- ---- "A reading so far that no start of any book gives, or a place past the lent book's end, gives 20", and only those
 
   pub twenty-given : OfType (sofar .table) → (SomeStart sofar → ⊥) ⊎ (length book < place) → recordAt book place sofar ≡ refusedAt NotWellFormed place
   unfolding callRule
@@ -57,7 +55,7 @@ module _ (book : List ℕ) (place : ℕ) (sofar : SoFar) where
       go (inr (h, inl (l, q))) = inr (ltb-true (length book) place l)
       go (inr (h, inr (l, r))) = let n = step-number book place sofar NotWellFormed r in absurd (omega arith)
 
-  -- ---- its records
+  -- ---- the records that it gives are the book's
 
   pub call-record : (r : Record) → recordAt book place sofar .outcome ≡ Given r → BytesAt book place r (recordAt book place sofar .place)
   unfolding recordAt callRule stepAt firstOf
@@ -70,7 +68,7 @@ module _ (book : List ℕ) (place : ℕ) (sofar : SoFar) where
       go true true e k = let z : _≡_ {A = ℕ} 0 1 = cc in absurd (omega arith)
       go true false e k = k e
 
--- ---- record by record from the start
+-- ---- "from the book's start the answers are the same"
 
 -- at a place that a start of the book has led to, the call is the step
 pub reached-call : {book : List ℕ} {place : ℕ} {sofar : SoFar} → Reached book place sofar → recordAt book place sofar ≡ stepAt book place sofar

@@ -1,6 +1,6 @@
 -- What every start of a book keeps: the table is well formed, the stage fits it, and the bytes read are those of the
 -- table's book. Assumes nothing.
-use mathlib.Core.Bool.{false}
+use mathlib.Core.Bool.{true, false}
 use mathlib.Core.List.{List, [], _++_}
 use mathlib.Core.Logic.{inr, ⊎-elim}
 use mathlib.Core.Path.{_≡_, refl, sym, ap, _∙_}
@@ -91,6 +91,12 @@ not-ended Tests tb u = refl
 not-ended Faults tb u = refl
 not-ended (Responses f t) tb u = refl
 not-ended Ended tb u = absurd (eqb-false 3 3 u refl)
+
+pub ended : (stage : Stage) (tb : Table) → eqb (rankOf stage) 3 ≡ true → bytesRead stage tb ≡ bookOf tb
+ended Tests tb u = absurd (omega (arith, eqb-true 0 3 u))
+ended Faults tb u = absurd (omega (arith, eqb-true 1 3 u))
+ended (Responses f t) tb u = absurd (omega (arith, eqb-true 2 3 u))
+ended Ended tb u = refl
 
 -- ---- a step
 

@@ -16,3 +16,4 @@ pub mod Longest
 pub mod Numbers
 pub mod Starts
 pub mod Calls
+pub mod Edges

@@ -1,4 +1,4 @@
--- One book has 5,991 bytes, and with one byte more it is another reading: so many bytes do not settle it. Assumes nothing.
+-- One book has 5,991 bytes, and so many bytes do not settle a reading. The sentences are document 01's. Assumes nothing.
 use mathlib.Core.Bool.{true}
 use mathlib.Core.List.{List, [], _∷_, _++_}
 use mathlib.Core.Logic.{⊎-elim}
@@ -100,6 +100,7 @@ full-accepted = book-accepts (bookOf full) full (record { typed = full-typed; fo
 
 -- ---- the theorems
 
+-- "The longest book has 5,991 bytes"
 pub longest : (book : List ℕ) × Bytes book × (length book ≡ 5991) × (readBook book .verdict ≡ Accepted)
 longest = (bookOf full, book-bytes full full-formed full-typed, full-length, ap (λ (r : Reading). r .verdict) full-accepted)
 

@@ -11,11 +11,11 @@ use Rattle.table.specs.declared.Refusal.{Refusal}
 use Rattle.table.specs.declared.Verdict.the-variants.{Accepted, Refused}
 use Rattle.book.specs.Given.{Reached, begun, read}
 use Rattle.book.specs.Reading.{readingOf, readBook}
-use Rattle.book.specs.Step.{start, rankOf, refusedAt, acceptedAt, testRule, faultRule, responseRule, endRule, stepAt}
+use Rattle.book.specs.Step.{start, rankOf, refusedAt, acceptedAt, stepAt}
 use Rattle.book.specs.declared.SoFar.{SoFar}
 use Rattle.book.specs.declared.Stepped.{Stepped}
-use Rattle.book.proofs.Loop.{Reads, begins, turn, onwards}
-use Rattle.book.proofs.Steps.{Gives, test, fault, response, ending, Steps, refuses, accepts, gives, steps}
+use Rattle.book.proofs.Loop.{Reads, begins, accepts-all, refuses-all, onwards}
+use Rattle.book.proofs.Steps.{Steps, refuses, accepts, gives, steps, goes}
 use Rattle.book_laws.proofs.Records.{recordOf, given-record}
 use Rattle.book.specs.declared.Outcome.the-variants as outcome
 
@@ -26,30 +26,22 @@ reads-on {book} (read {place} {sofar} x r e) = onwards book place sofar (stepAt 
 
 module _ {book : List ℕ} {place : ℕ} {sofar : SoFar} (x : Reached book place sofar) where
   pub refused-reading : (why : Refusal) → stepAt book place sofar ≡ refusedAt why place → readBook book ≡ readingOf (Refused why) (refusedAt why place)
-  refused-reading why e = sym (turn book place sofar (refusedAt why place) (reads-on x) (sym e))
+  refused-reading why e = sym (refuses-all book place sofar (refusedAt why place) (reads-on x) (sym e) why refl)
 
   pub accepted-reading : stepAt book place sofar ≡ acceptedAt place sofar → readBook book ≡ readingOf Accepted (acceptedAt place sofar)
-  accepted-reading e = sym (turn book place sofar (acceptedAt place sofar) (reads-on x) (sym e))
+  accepted-reading e = sym (accepts-all book place sofar (acceptedAt place sofar) (reads-on x) (sym e) refl)
 
 -- the last step of a reading
 pub data Ends (book : List ℕ) : Reading → Type 0 where
   refused : {place : ℕ} {sofar : SoFar} → Reached book place sofar → (why : Refusal) → stepAt book place sofar ≡ refusedAt why place → Ends book (readingOf (Refused why) (refusedAt why place))
   accepted : {place : ℕ} {sofar : SoFar} → Reached book place sofar → length book ≤ place → eqb (rankOf (sofar .stage)) 3 ≡ true → stepAt book place sofar ≡ acceptedAt place sofar → Ends book (readingOf Accepted (acceptedAt place sofar))
 
--- each record has a byte at least
-further : {book : List ℕ} {place : ℕ} {sofar : SoFar} {s : Stepped} → Gives book place sofar s → place < s .place
-unfolding testRule faultRule responseRule endRule
-further (test h k) = omega arith
-further (fault h k) = omega arith
-further (response h k) = omega arith
-further (ending h k) = omega arith
-
 -- the step at a place that a start of the book has led to is the last one, or leads on
 last-or-on : {book : List ℕ} {place : ℕ} {sofar : SoFar} → Reached book place sofar → {s : Stepped} → Steps book place sofar s → stepAt book place sofar ≡ s
     → (place < length book → place < s .place → Reached book (s .place) (s .sofar) → Ends book (readBook book)) → Ends book (readBook book)
 last-or-on x (refuses why) e k = rw (refused-reading x why e) (refused x why e)
 last-or-on x (accepts l u) e k = rw (accepted-reading x e) (accepted x l u e)
-last-or-on x {s} (gives l u g) e k = k l (further g) (rw e at (read x (recordOf g) (rw e (given-record g))))
+last-or-on x {s} (gives l u g) e k = k l (goes (reads-on x .counts) (gives l u g) (recordOf g) (given-record g) .further) (rw e at (read x (recordOf g) (rw e (given-record g))))
 
 ends-from : (n : ℕ) (book : List ℕ) (place : ℕ) (sofar : SoFar) → Reached book place sofar → length book ≤ place + n → Ends book (readBook book)
 ends-from zero book place sofar x h = last-or-on x (steps book place sofar) refl (λ l m y. absurd (omega arith))

@@ -29,9 +29,7 @@ recordOf {book} {place} (ending h k) = End (getD book (place + 1) 0) (getD book 
 
 module _ (book : List ℕ) (place : ℕ) where
   at₂ : place + 2 ≤ length book → take 2 (drop place book) ≡ getD book place 0 ∷ getD book (place + 1) 0 ∷ []
-  at₂ l =
-      let q : place + 1 + 1 ≡ place + 2 = omega arith in
-      rw (cons-at book place (omega arith), cons-at book (place + 1) (omega arith))
+  at₂ l = rw (cons-at book place (omega arith), cons-at book (place + 1) (omega arith))
 
   at₃ : place + 3 ≤ length book → take 3 (drop place book) ≡ getD book place 0 ∷ getD book (place + 1) 0 ∷ getD book (place + 2) 0 ∷ []
   at₃ l =
@@ -70,7 +68,7 @@ given-record (ending h k) = refl
 pub taken-on : (book : List ℕ) (place : ℕ) (r : Record) (next : ℕ) → BytesAt book place r next → take next book ≡ take place book ++ recordBytes r
 taken-on book place r next b = rw (b .further) (take-add place (length (recordBytes r)) book ∙ ap (λ (x : List ℕ). take place book ++ x) (b .bytes))
 
--- the theorem
+-- the theorem, of a step
 pub record-there : (book : List ℕ) (place : ℕ) (sofar : SoFar) (r : Record) → stepAt book place sofar .outcome ≡ Given r → BytesAt book place r (stepAt book place sofar .place)
 record-there book place sofar r e = go (steps book place sofar) e
   where

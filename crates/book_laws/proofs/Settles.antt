@@ -1,5 +1,4 @@
--- The first 5,992 bytes of an input settle its reading; every place that it gives is in the book and at most 5,991.
--- Assumes nothing.
+-- The first 5,992 bytes of an input settle its reading. The sentences are document 01's. Assumes nothing.
 use mathlib.Core.Bool.{Bool, true, false}
 use mathlib.Core.List.{List}
 use mathlib.Core.Logic.{⊎-elim}
@@ -77,7 +76,7 @@ module _ (a b : List ℕ) (same : take 5992 a ≡ take 5992 b) where
       let q = step-same x in
       rw q (read (reached-same x) r (rw q at e))
 
-  -- two inputs that agree on their first 5,992 bytes have one reading
+  -- "the first 5,992 bytes of any input settle the reader's answer"
   pub settles : readBook a ≡ readBook b
   settles = go (ends a)
     where
@@ -85,7 +84,7 @@ module _ (a b : List ℕ) (same : take 5992 a ≡ take 5992 b) where
       go (refused x why e) = sym (refused-reading (reached-same x) why (sym (step-same x) ∙ e))
       go (accepted x l u e) = sym (accepted-reading (reached-same x) (sym (step-same x) ∙ e))
 
--- every place that a reading gives
+-- every place that a reading gives is in the book, and at most 5,991
 pub place-most : (book : List ℕ) → (readBook book .place ≤ 5991) × (readBook book .place ≤ length book)
 place-most book = go (ends book)
   where

@@ -4,7 +4,11 @@ use mathlib.Core.Bool.{true, false}
 use mathlib.Core.List.{List, [], _∷_}
 use mathlib.Core.Logic.{_⊎_}
 use mathlib.Core.Path.{_≡_}
-use Prim.Native.Nat.{ℕ}
+use Prim.Native.Nat.{ℕ, _<_}
+use lib.ListN.{length, take}
+use Rattle.table.specs.WellFormed.{WellFormed}
+use Rattle.table.specs.declared.Table.{Table}
+use Rattle.book.specs.BookOf.{bookOf}
 use Rattle.table.specs.declared.Refusal.{Refusal}
 use Rattle.book.specs.Given.{Reached}
 use Rattle.book.specs.Step.{Check, ruleAt}
@@ -20,3 +24,10 @@ pub record StopsAt (book : List ℕ) (why : Refusal) (place : ℕ) : Type 0 wher
   pub sofar : SoFar
   pub reached : Reached book place sofar
   pub refuses : Refuses why (ruleAt book place sofar .checks)
+
+-- "the byte after the end record": up to the place stands the whole book of a table, and a byte follows
+pub record AfterEnd (book : List ℕ) (place : ℕ) : Type 0 where
+  pub table : Table
+  pub formed : WellFormed table
+  pub before : take place book ≡ bookOf table
+  pub more : place < length book

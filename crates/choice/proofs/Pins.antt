@@ -25,7 +25,7 @@ use Rattle.choice.proofs.Root.{capped}
 
 module _ (tb : Table) (goal : Goal) (cap : ℕ) where
   -- a choice and a refusal do not both meet the promise
-  apart : (s : ℕ) (why : Refusal) → ChoiceIs tb goal cap (Tests s) → ChoiceIs tb goal cap (Refused why) → ⊥
+  pub apart : (s : ℕ) (why : Refusal) → ChoiceIs tb goal cap (Tests s) → ChoiceIs tb goal cap (Refused why) → ⊥
   apart s why (w, l, c, n) (inl (e, ill)) = ill w
   apart s why (w, l, c, n) (inr (inl (e, w', m))) = omega arith
   apart s why (w, l, c, n) (inr (inr (e, w', m, none))) = omega (arith, none s (c .within) (c .reaches))

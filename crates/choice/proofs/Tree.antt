@@ -1,5 +1,4 @@
 -- What holds at a node of the search, from what holds at the nodes below it, for any weight of each test. Assumes nothing.
--- test t is taken
 use mathlib.Core.Bool.{true}
 use mathlib.Core.List.{List}
 use mathlib.Core.Logic.{inl, inr, ⊎-elim}
@@ -24,6 +23,7 @@ use Rattle.choice.specs.declared.search.Found.the-variants.{Set, Nothing
 use Rattle.choice.specs.Search.{FirstUnhit, Node, Open, NeedsMore, Best, limitAfter, orElse}
 use Rattle.choice.proofs.Weights.{agreed-weight, agreed-same}
 
+-- test t is taken
 pub taken : (s t : ℕ) → withTest s t true ≡ s + 2 ^ t
 unfolding withTest
 taken s t = refl
@@ -33,7 +33,7 @@ before-at : (s s' t : ℕ) → s % 2 ^ t ≡ s' % 2 ^ t → bit s t ≡ 1 → bi
 before-at s s' t e a b = (t, a, b, λ j l. sym (bit-low s t j l) ∙ ap (λ (x : ℕ). bit x j) e ∙ bit-low s' t j l)
 
 module _ (w : ℕ → ℕ) (masks : List ℕ) (keep t chosen : ℕ) where
-  pub open-limit : (limit limit' s : ℕ) → Open w masks keep t chosen limit s → weight w s < limit' → Open w masks keep t chosen limit' s
+  open-limit : (limit limit' s : ℕ) → Open w masks keep t chosen limit s → weight w s < limit' → Open w masks keep t chosen limit' s
   open-limit limit limit' s o l = record { below = o .below; agrees = o .agrees; keeps = o .keeps; hits = o .hits; light = l }
 
   open-in-down : (limit s : ℕ) → bit s t ≡ 1 → Open w masks keep t chosen limit s → Open w masks keep (t + 1) (chosen + 2 ^ t) limit s

@@ -1,5 +1,4 @@
 -- Weights of sets that agree or share nothing, for any positive weight of each test. Assumes nothing.
--- ---- sums, number by number
 use mathlib.Core.Logic.{⊎-elim}
 use mathlib.Core.Path.{_≡_, sym, ap, _∙_}
 use Prim.Native.Nat.{ℕ, zero, suc, _+_, _*_, _%_, _^_, _≤_, _<_}
@@ -13,6 +12,8 @@ use Rattle.folds.proofs.Total.{total-more, total-same, total-grows}
 use Rattle.sets.specs.Sets.{bit, has, share, weight, size}
 use Rattle.sets.proofs.Bits.{bit-cases, bit-low, bit-high, bits-equal}
 use Rattle.sets.proofs.Weight.{share-in, share-out, weight-below, size-counts}
+
+-- ---- sums, number by number
 
 total-two : (f g h : ℕ → ℕ) (n : ℕ) → ((i : ℕ) → f i + g i ≤ h i) → total f n + total g n ≤ total h n
 unfolding total
@@ -35,7 +36,7 @@ module _ (w : ℕ → ℕ) where
   -- ---- a set that agrees with what is chosen below t
 
   module _ (t chosen s : ℕ) (depth : t ≤ 24) (decided : chosen < 2 ^ t) (agrees : s % 2 ^ t ≡ chosen) where
-    pub agreed-bit : (i : ℕ) → i < t → bit chosen i ≡ bit s i
+    agreed-bit : (i : ℕ) → i < t → bit chosen i ≡ bit s i
     agreed-bit i l = ap (λ (x : ℕ). bit x i) (sym agrees) ∙ bit-low s t i l
 
     agreed-part : weight w chosen ≡ total (share w s) t

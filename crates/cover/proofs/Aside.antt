@@ -1,5 +1,4 @@
 -- The kept tests by the masks are the paper's, and so are the lone ones. Assumes nothing.
--- ---- what the tests over masks say
 use mathlib.Core.Bool.{Bool, true, false, not}
 use mathlib.Core.List.{List}
 use mathlib.Core.Logic.{inl, inr, ⊎-elim}
@@ -12,24 +11,24 @@ use borrow.Author.Tests.{ltb-true, lt-ltb, eqb-true, eq-eqb, not-true, not-false
 use lib.Bits.{bitAnd}
 use lib.Dec.{ltb}
 use lib.ListN.{length, getD}
-use lib.Pow.{pow-lt}
 use Rattle.folds.specs.Fold.{pick}
 use Rattle.folds.proofs.Bools.{clash, both-true, both-left, both-right, both-cases, either-left, either-right, either-second}
-use Rattle.folds.proofs.Below.{eq-or-ne}
 use Rattle.folds.proofs.Every.{every-at, every-of}
 use Rattle.sets.specs.Sets.{bit, has}
-use Rattle.sets.proofs.Bits.{bit-lt, bit-cases, bit-out, bits-equal, has-yes, has-no, has-bit, below-of-bits}
+use Rattle.sets.proofs.Bits.{bit-cases, bit-out, has-yes, has-no, has-bit}
 use Rattle.table.specs.declared.Goal.{Goal}
 use Rattle.table.specs.declared.Goal.the-variants.{Detect}
 use Rattle.table.specs.declared.Table.{Table}
-use Rattle.terms.specs.Terms.{TestOf, Separates, GoalPair, Counts, Covers, Aside, Kept, Essential}
+use Rattle.terms.specs.Terms.{TestOf, GoalPair, Counts, Covers, Aside, Kept, Essential}
 use Rattle.cover.specs.Collect.{withTest, setOf}
 use Rattle.cover.specs.Masks.{masksOf}
 use Rattle.cover.specs.Kept.{hasAt, followsAt, follows, isAt, maskIs, used, covers, outdoneBy, outdone, kept, lone}
 use Rattle.cover.specs.Answer.{keptSet, loneSet, Exactly, AsideTest}
 use Rattle.cover.proofs.Collect.{set-below, set-has, set-in, some-of, some-at}
-use Rattle.cover.proofs.Shared.{bit-and, alone-in, alone-out}
-use Rattle.cover.proofs.Goals.{AllOf, pairMask, mask-test, mask-separates, mask-in, masks-all, masks-at}
+use Rattle.cover.proofs.Shared.{only-in, only-one, only-of}
+use Rattle.cover.proofs.Goals.{AllOf, pairMask, mask-lt, mask-separates, mask-in, masks-all, masks-at}
+
+-- ---- what the tests over masks say
 
 module _ (masks : List ℕ) (t : ℕ) where
   used-not : used masks t ≡ true → AllOf (λ m. bit m t ≡ 0) masks → ⊥
@@ -152,55 +151,25 @@ module _ (tb : Table) (goal : Goal) where
       go a zero (e, l, m) c = absurd (omega arith)
       go a (suc f) (e, l, m) c = (f, omega arith, rw (e, add-one))
 
-  module _ (t f : ℕ) where
-    -- the kept tests that separate fault f from column 0
-    seeing : ℕ
-    seeing = bitAnd (pairMask tb 0 (f + 1)) (keptSet tb goal)
-
-    only-here : seeing ≡ 2 ^ t → (bit (pairMask tb 0 (f + 1)) t ≡ 1) × (bit (keptSet tb goal) t ≡ 1)
-    unfolding seeing
-    only-here e =
-        let b = bit-and (pairMask tb 0 (f + 1)) (keptSet tb goal) t in
-        let c = ap (λ (x : ℕ). bit x t) e in
-        (omega (arith, b, c, alone-in t, bit-lt (pairMask tb 0 (f + 1)) t), omega (arith, b, c, alone-in t, bit-lt (keptSet tb goal) t))
-
-    no-other : seeing ≡ 2 ^ t → (u : ℕ) → Kept tb goal u → Separates tb u 0 (f + 1) → u ≡ t
-    unfolding seeing
-    no-other e u k s = ⊎-elim
-        (λ q. q)
-        (λ ne. absurd (omega (arith, bit-and (pairMask tb 0 (f + 1)) (keptSet tb goal) u, ap (λ (x : ℕ). bit x u) e, alone-out t u ne, kept-set tb goal u k, mask-in tb 0 (f + 1) u (k .0) s)))
-        (eq-or-ne u t)
-
-    seeing-is : TestOf tb t → bit (keptSet tb goal) t ≡ 1 → Separates tb t 0 (f + 1) → ((u : ℕ) → Kept tb goal u → Separates tb u 0 (f + 1) → u ≡ t) → seeing ≡ 2 ^ t
-    unfolding seeing
-    seeing-is l k s only = bits-equal (tb .tests) _ _ (below-of-bits (tb .tests) _ (λ u b. mask-test tb 0 (f + 1) u (omega (arith, bit-and (pairMask tb 0 (f + 1)) (keptSet tb goal) u, bit-lt (pairMask tb 0 (f + 1)) u)))) (pow-lt l) (λ u m. ⊎-elim
-        (λ q. rw q (omega (arith, bit-and (pairMask tb 0 (f + 1)) (keptSet tb goal) t, mask-in tb 0 (f + 1) t l s, alone-in t)))
-        (λ ne. omega (arith, alone-out t u ne, ⊎-elim (λ z. z) (λ o. absurd (ne (two u o))) (bit-cases (bitAnd (pairMask tb 0 (f + 1)) (keptSet tb goal)) u)))
-        (eq-or-ne u t))
-      where
-        two : (u : ℕ) → bit (bitAnd (pairMask tb 0 (f + 1)) (keptSet tb goal)) u ≡ 1 → u ≡ t
-        two u o =
-            let b = bit-and (pairMask tb 0 (f + 1)) (keptSet tb goal) u in
-            let x : bit (pairMask tb 0 (f + 1)) u ≡ 1 = omega (arith, bit-lt (pairMask tb 0 (f + 1)) u) in
-            let y : bit (keptSet tb goal) u ≡ 1 = omega (arith, bit-lt (keptSet tb goal) u) in
-            only u (set-kept tb goal u y) (mask-separates tb 0 (f + 1) u x)
-
   pub essential-exactly : Exactly (Essential tb goal) (loneSet tb (keptSet tb goal))
-  unfolding loneSet lone isAt maskIs seeing
-  essential-exactly = record {
-    inside = λ t b.
-        let w = some-at (isAt (masksOf tb Detect) (keptSet tb goal) t) (length (masksOf tb Detect)) (set-has (lone (masksOf tb Detect) (keptSet tb goal)) (tb .tests) t b) in
-        let f = of-fault (w .0) (w .1) in
-        let e : seeing t (f .0) ≡ 2 ^ t = ap (λ (m : ℕ). bitAnd m (keptSet tb goal)) (sym (f .2)) ∙ eqb-true _ _ (w .2) in
-        let h = only-here t (f .0) e in
-        (set-kept tb goal t (h .1), (f .0, f .1, mask-separates tb 0 (f .0 + 1) t (h .0), no-other t (f .0) e));
-    outside = λ t b w. go t b w;
-  }
+  unfolding loneSet lone isAt maskIs
+  essential-exactly = record { inside = inside; outside = outside }
     where
-      go : (t : ℕ) → bit (setOf (lone (masksOf tb Detect) (keptSet tb goal)) (tb .tests)) t ≡ 0 → Essential tb goal t → ⊥
-      go t b (k, (f, l, s, only)) =
+      inside : (t : ℕ) → bit (setOf (lone (masksOf tb Detect) (keptSet tb goal)) (tb .tests)) t ≡ 1 → Essential tb goal t
+      inside t b =
+          let w = some-at (isAt (masksOf tb Detect) (keptSet tb goal) t) (length (masksOf tb Detect)) (set-has (lone (masksOf tb Detect) (keptSet tb goal)) (tb .tests) t b) in
+          let f = of-fault (w .0) (w .1) in
+          let e : bitAnd (pairMask tb 0 (f .0 + 1)) (keptSet tb goal) ≡ 2 ^ t = ap (λ (m : ℕ). bitAnd m (keptSet tb goal)) (sym (f .2)) ∙ eqb-true _ _ (w .2) in
+          let h = only-in _ _ t e in (
+            set-kept tb goal t (h .1),
+            (f .0, f .1, mask-separates tb 0 (f .0 + 1) t (h .0), λ u k s. only-one _ _ t e u (mask-in tb 0 (f .0 + 1) u (k .0) s) (kept-set tb goal u k)),
+          )
+
+      outside : (t : ℕ) → bit (setOf (lone (masksOf tb Detect) (keptSet tb goal)) (tb .tests)) t ≡ 0 → Essential tb goal t → ⊥
+      outside t b (k, (f, l, s, only)) =
           masks-at tb Detect (λ m. bitAnd m (keptSet tb goal) ≡ 2 ^ t → ⊥) none 0 (f + 1) (refl, omega arith, omega arith) (t, k .0, s)
-          (seeing-is t f (k .0) (kept-set tb goal t k) s only)
+          (only-of _ _ t (tb .tests) (mask-lt tb 0 (f + 1)) (mask-in tb 0 (f + 1) t (k .0) s) (kept-set tb goal t k)
+          (λ u m h. only u (set-kept tb goal u h) (mask-separates tb 0 (f + 1) u m)))
         where
           none : AllOf (λ m. bitAnd m (keptSet tb goal) ≡ 2 ^ t → ⊥) (masksOf tb Detect)
           none i m e =

@@ -1,5 +1,4 @@
 -- Laws of `setOf` and `some`, and the facts of the loops that make them. Assumes nothing.
--- ---- one test more at the top
 use mathlib.Core.Bool.{Bool, true, false}
 use mathlib.Core.Logic.{⊎-elim}
 use mathlib.Core.Path.{_≡_, refl, sym, ap, _∙_}
@@ -15,8 +14,10 @@ use Rattle.sets.specs.Sets.{bit}
 use Rattle.sets.proofs.Bits.{bit-high, top-lt, top-bit, top-below}
 use Rattle.cover.specs.Collect.{withTest, setOf, some}
 
+-- ---- one test more at the top
+
 module _ (s t : ℕ) (h : s < 2 ^ t) where
-  pub with-lt : (b : Bool) → withTest s t b < 2 ^ suc t
+  with-lt : (b : Bool) → withTest s t b < 2 ^ suc t
   unfolding withTest
   with-lt true = top-lt s t h
   with-lt false = omega (arith, pow-suc 2 t)

@@ -1,6 +1,4 @@
 -- The rows of masks, one behind the other in one array. Assumes nothing.
--- a list written to what is behind `at`, where `at` is the end of what was written before: the buffer as a call
--- `f(&mut b[at..])` leaves it
 use mathlib.Core.List.{List, [], _++_, append-assoc, append-nil}
 use mathlib.Core.Path.{_≡_, refl, sym, ap, _∙_}
 use Prim.Native.Nat.{ℕ, zero, suc, _+_, _-_, _≤_, _<_}
@@ -19,7 +17,9 @@ use Rattle.cover.specs.Masks.{maskRow, masksOf}
 use Rattle.cover.specs.Filled.{noMasks, Filled}
 use Rattle.cover.proofs.Masks.{row-few}
 
-pub onto-behind : (ys xs d b b′ row : List ℕ) (at m : ℕ) → length b ≡ m → b ≡ onto ys d → at ≡ length ys
+-- a list written to what is behind `at`, where `at` is the end of what was written before: the buffer as a call
+-- `f(&mut b[at..])` leaves it
+onto-behind : (ys xs d b b′ row : List ℕ) (at m : ℕ) → length b ≡ m → b ≡ onto ys d → at ≡ length ys
     → row ≡ onto xs (take (m - at) (drop at b)) → b′ ≡ take at b ++ (row ++ drop (m - at) (drop at b)) → b′ ≡ onto (ys ++ xs) d
 unfolding onto
 onto-behind ys xs d b b′ row at m l e k r h =

@@ -1,10 +1,9 @@
 -- What holds of every mask of a goal, and what holds of every goal pair that counts. Assumes nothing.
--- ---- every entry of a list has Q
 use mathlib.Core.Bool.{Bool, true, false}
 use mathlib.Core.List.{List, [], _∷_, _++_}
 use mathlib.Core.Logic.{⊎-elim}
 use mathlib.Core.Path.{_≡_, refl, sym, ap, _∙_}
-use Prim.Native.Nat.{ℕ, zero, suc, _<_}
+use Prim.Native.Nat.{ℕ, zero, suc, _^_, _<_}
 use native.Mathlib.Nat.{le-of-suc-le-suc}
 use native.Mathlib.Omega.{arith}
 use borrow.Author.Tests.{ltb-true, lt-ltb, eqb-true, eq-eqb, ne-eqb}
@@ -22,7 +21,9 @@ use Rattle.table.specs.declared.Table.{Table}
 use Rattle.terms.specs.Columns.{agrees}
 use Rattle.terms.specs.Terms.{TestOf, Separates, GoalPair, Counts, Reaches}
 use Rattle.cover.specs.Masks.{Shares, Hits, goalPair, differs, maskOf, goalMask, counts, maskRow, masksOf}
-use Rattle.cover.proofs.Collect.{set-below, set-has, set-in}
+use Rattle.cover.proofs.Collect.{set-lt, set-below, set-has, set-in}
+
+-- ---- every entry of a list has Q
 
 abbrev pub AllOf : (ℕ → Type 0) → List ℕ → Type 0
 AllOf Q xs = (k : ℕ) → k < length xs → Q (getD xs k 0)
@@ -70,6 +71,10 @@ module _ (tb : Table) (a b : ℕ) where
   -- the tests that separate the columns a and b
   abbrev pub pairMask : ℕ
   pairMask = maskOf (outputAt tb) (tb .tests) a b
+
+  pub mask-lt : pairMask < 2 ^ tb .tests
+  unfolding maskOf
+  mask-lt = set-lt (differs (outputAt tb) a b) (tb .tests)
 
   pub mask-test : (t : ℕ) → bit pairMask t ≡ 1 → TestOf tb t
   unfolding maskOf

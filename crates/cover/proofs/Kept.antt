@@ -1,5 +1,4 @@
 -- Laws of the tests weighed by masks. Assumes nothing.
--- ---- the code's tests
 use mathlib.Core.Bool.{Bool, true, false, not}
 use mathlib.Core.List.{List}
 use mathlib.Core.Path.{_≡_}
@@ -7,6 +6,8 @@ use Prim.Native.Nat.{ℕ, _≤_, _<_}
 use borrow.Author.Tests.{le-ltb, lt-ltb, not-true, not-false}
 use Rattle.sets.specs.Sets.{has}
 use Rattle.cover.specs.Kept.{follows, covers, outdoneBy, outdone, used, kept}
+
+-- ---- the code's tests
 
 module _ (u t mask : ℕ) (r : Bool) (e : r ≡ has mask t) where
   pub follows-free : not r ≡ true → true ≡ follows u t mask

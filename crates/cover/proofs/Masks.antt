@@ -1,5 +1,4 @@
 -- Laws of the masks of pairs. Assumes nothing.
--- ---- the code's tests
 use mathlib.Core.Bool.{Bool, true, false, not}
 use mathlib.Core.Logic.{⊎-elim}
 use mathlib.Core.Path.{_≡_, refl, sym, _∙_}
@@ -15,6 +14,8 @@ use Rattle.folds.proofs.Gather.{gather-length}
 use Rattle.table.specs.declared.Goal.{Goal}
 use Rattle.table.specs.declared.Goal.the-variants.{Detect, Diagnose}
 use Rattle.cover.specs.Masks.{goalPair, maskOf, goalMask, counts, maskRow}
+
+-- ---- the code's tests
 
 pub pair-not : (goal : Goal) (a b : ℕ) → b ≤ a → false ≡ goalPair goal a b
 unfolding goalPair

@@ -1,15 +1,15 @@
 -- What two sets share. Assumes nothing.
 use mathlib.Core.Logic.{⊎-elim}
-use mathlib.Core.Path.{_≡_, ap, _∙_}
-use Prim.Native.Nat.{ℕ, suc, _/_, _%_, _^_, min}
+use mathlib.Core.Path.{_≡_, sym, ap, _∙_}
+use Prim.Native.Nat.{ℕ, suc, _/_, _%_, _^_, _<_, min}
 use native.Mathlib.Nat.{zero-add}
 use native.Mathlib.Omega.{arith}
 use lib.Arith.{digits-mod}
 use lib.Bits.{bitAnd, and-shr, and-step}
 use lib.Pow.{pow-lt, pow-pos}
-use Rattle.folds.proofs.Below.{lt-or-ge}
+use Rattle.folds.proofs.Below.{lt-or-ge, eq-or-ne}
 use Rattle.sets.specs.Sets.{bit}
-use Rattle.sets.proofs.Bits.{bit-lt, bit-high, bit-zero, some-bit, top-bit, top-below}
+use Rattle.sets.proofs.Bits.{bit-lt, bit-out, bit-high, bit-zero, bit-below, bits-equal, below-of-bits, some-bit, top-bit, top-below}
 use Rattle.cover.specs.Masks.{Shares}
 
 pub bit-and : (a b t : ℕ) → bit (bitAnd a b) t ≡ min (bit a t) (bit b t)
@@ -27,10 +27,28 @@ pub shares-not : (m s : ℕ) → bitAnd m s ≡ 0 → Shares m s → ⊥
 shares-not m s e (t, a, b) = omega (arith, bit-and m s t, ap (λ (x : ℕ). bit x t) e, bit-zero t)
 
 -- the set of test t alone
-pub alone-in : (t : ℕ) → bit (2 ^ t) t ≡ 1
+alone-in : (t : ℕ) → bit (2 ^ t) t ≡ 1
 alone-in t = rw zero-add at (top-bit 0 t (pow-pos t))
 
-pub alone-out : (t i : ℕ) → (i ≡ t → ⊥) → bit (2 ^ t) i ≡ 0
+alone-out : (t i : ℕ) → (i ≡ t → ⊥) → bit (2 ^ t) i ≡ 0
 alone-out t i ne =
     ⊎-elim (λ l. (rw zero-add at (top-below 0 t i (pow-pos t) l)) ∙ bit-zero i)
     (λ l. bit-high (2 ^ t) (suc t) i (pow-lt {i = t} {j = suc t} (omega arith)) (omega arith)) (lt-or-ge i t)
+
+-- test t is the only one that two sets share
+module _ (m s t : ℕ) where
+  both-in : (u : ℕ) → bit (bitAnd m s) u ≡ 1 → (bit m u ≡ 1) × (bit s u ≡ 1)
+  both-in u e = (omega (arith, bit-and m s u, bit-lt m u), omega (arith, bit-and m s u, bit-lt s u))
+
+  module _ (e : bitAnd m s ≡ 2 ^ t) where
+    pub only-in : (bit m t ≡ 1) × (bit s t ≡ 1)
+    only-in = both-in t (ap (λ (x : ℕ). bit x t) e ∙ alone-in t)
+
+    pub only-one : (u : ℕ) → bit m u ≡ 1 → bit s u ≡ 1 → u ≡ t
+    only-one u a b = ⊎-elim (λ q. q) (λ ne. absurd (omega (arith, bit-and m s u, ap (λ (x : ℕ). bit x u) e, alone-out t u ne))) (eq-or-ne u t)
+
+  pub only-of : (n : ℕ) → m < 2 ^ n → bit m t ≡ 1 → bit s t ≡ 1 → ((u : ℕ) → bit m u ≡ 1 → bit s u ≡ 1 → u ≡ t) → bitAnd m s ≡ 2 ^ t
+  only-of n h a b only = bits-equal n (bitAnd m s) (2 ^ t) (below-of-bits n (bitAnd m s) (λ u e. bit-below n m u h (both-in u e .0))) (pow-lt (bit-below n m t h a)) (λ u l. ⊎-elim
+      (λ (q : u ≡ t). rw q (omega (arith, bit-and m s t, alone-in t)))
+      (λ (ne : u ≡ t → ⊥). bit-out (bitAnd m s) u (λ e. let w = both-in u e in ne (only u (w .0) (w .1))) ∙ sym (alone-out t u ne))
+      (eq-or-ne u t))

@@ -36,14 +36,15 @@ module _ (masks : List ℕ) where
   unfoldable pub covers : ℕ → ℕ → Bool
   covers u t = every (followsAt u t) (length masks)
 
-  -- "a lower-numbered test separates every goal pair that it does"
+  -- test u outdoes test t: "a lower-numbered test separates every goal pair that it does"
   unfoldable pub outdoneBy : ℕ → ℕ → Bool
   outdoneBy t u = both (ltb u t) (covers u t)
 
+  -- some test outdoes test t
   unfoldable pub outdone : ℕ → ℕ → Bool
   outdone tests t = some (outdoneBy t) tests
 
-  -- "A test is set aside when it separates no goal pair, or when a lower-numbered test .. The others are kept."
+  -- no test outdoes test t, and it separates some goal pair: it is not set aside
   unfoldable pub kept : ℕ → ℕ → Bool
   kept tests t = both (not (outdone tests t)) (used t)
 

@@ -1,11 +1,11 @@
 -- Numbers below a bound. Assumes nothing.
--- below n + 1: below n, or n
 use mathlib.Core.Path.{_≡_, refl, ap}
 use mathlib.Core.Logic.{_⊎_, inl, inr, ⊎-elim}
 use Prim.Native.Nat.{ℕ, zero, suc, _≤_, _<_}
 use native.Mathlib.Decide.{decLt}
 use native.Mathlib.Omega.{arith}
 
+-- below n + 1: below n, or n
 pub below-cases : (i n : ℕ) → i < suc n → (i < n) ⊎ (i ≡ n)
 below-cases zero zero h = inr refl
 below-cases zero (suc n) h = inl (omega arith)

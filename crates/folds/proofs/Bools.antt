@@ -1,5 +1,4 @@
 -- Laws of tests. Assumes nothing.
--- a test does not hold and fail
 use mathlib.Core.Path.{_≡_, refl}
 use mathlib.Core.Bool.{Bool, true, false}
 use mathlib.Core.Logic.{_⊎_, inl, inr}
@@ -7,6 +6,7 @@ use Prim.Native.Nat.{ℕ}
 use native.Mathlib.Omega.{arith}
 use Rattle.folds.specs.Fold.{both, either, Tells}
 
+-- a test does not hold and fail
 pub clash : {A : Type 0} (b : Bool) → b ≡ true → b ≡ false → A
 clash b p q = let z : _≡_ {A = ℕ} 0 1 = cc in absurd (omega arith)
 

@@ -1,11 +1,11 @@
 -- Questions about the numbers below a bound that can be decided. Assumes nothing.
--- it holds, or it does not
 use mathlib.Core.Path.{sym, subst}
 use mathlib.Core.Logic.{_⊎_, inl, inr, ⊎-elim}
 use Prim.Native.Nat.{ℕ, zero, suc, _≤_, _<_}
 use native.Mathlib.Omega.{arith}
 use Rattle.folds.proofs.Below.{below-cases}
 
+-- it holds, or it does not
 abbrev pub Decided : Type 0 → Type 0
 Decided P = P ⊎ (P → ⊥)
 

@@ -1,5 +1,4 @@
 -- Laws of `joined`: rows one after the other, each written to its own part of a buffer. Assumes nothing.
--- rows that agree where they are taken are joined to one list
 use mathlib.Core.Path.{_≡_, refl, sym, ap, _∙_}
 use mathlib.Core.Bool.{Bool, true, false}
 use mathlib.Core.List.{List, [], _++_, append-nil}
@@ -14,6 +13,7 @@ use Rattle.folds.specs.Fold.{pick, count, joined, onto}
 use Rattle.folds.proofs.Below.{below-cases}
 use Rattle.folds.proofs.Onto.{onto-none, onto-part}
 
+-- rows that agree where they are taken are joined to one list
 pub joined-same : (p : ℕ → Bool) (g h : ℕ → List ℕ) (n : ℕ) → ((i : ℕ) → i < n → g i ≡ h i) → joined p g n ≡ joined p h n
 unfolding joined
 joined-same p g h zero e = refl

@@ -1,6 +1,5 @@
 -- What the walks of functions over a reader share: the reader's type, what a call gives, and how a walk is the function's
 -- theorem. Assumes nothing.
--- the reader's type, over a signature's lifetimes
 use mathlib.Core.List.{List, [], _∷_}
 use mir.Syntax.{Fn}
 use mir.Val.{Val}
@@ -30,6 +29,7 @@ use denote.Struct.Laws as LL
 use Rattle.held_book.proofs.Reader as T
 use Rattle.held_book.proofs.Reader.Laws as T′
 
+-- the reader's type, over a signature's lifetimes
 abbrev pub B : Lfts 1 → RattleType
 B κs = T.the-row (namedLft 1 0 tt κs)
 

@@ -1,5 +1,4 @@
 -- What the writers of items and lines have done, from what each piece's writer did. Assumes nothing.
--- ---- items
 use mathlib.Core.Bool.{Bool}
 use mathlib.Core.List.{List, [], _∷_}
 use mathlib.Core.Path.{_≡_, refl, sym, ap, _∙_}
@@ -16,6 +15,8 @@ use Rattle.table.specs.declared.Classes.{Classes}
 use Rattle.table.specs.declared.Table.{Table}
 use Rattle.text.proofs.Writes.{writes-then}
 use Rattle.text.specs.Text.{Writes, decimalOf}
+
+-- ---- items
 
 pub spaced-done : (at n r r′ : ℕ) (b b′ b″ : List ℕ) → Writes at (32 ∷ []) b r b′ → Writes r (decimalOf n) b′ r′ b″ → Writes at (spaced n) b r′ b″
 unfolding spaced

@@ -8,7 +8,7 @@ ghost use Rattle.text.specs.Text.{Writes};
 ghost use mathlib.Core.Path.{_≡_};
 
 // A byte as a number.
-fn wide(byte: u8) -> usize
+pub fn wide(byte: u8) -> usize
     ensures { λ r. ⌜ r ≡ byte ⌝ }
 {
     byte as usize

@@ -1,5 +1,4 @@
 -- Number and value say which answer it is. Assumes nothing.
--- the refusal of a number
 use mathlib.Core.Path.{_≡_, refl, sym, _∙_}
 use Prim.Native.Nat.{ℕ}
 use lib.Dec.{eqb}
@@ -16,6 +15,7 @@ use Rattle.table.specs.declared.Chosen.the-variants as chosen
 use Rattle.table.specs.declared.Faults.the-variants as faults
 use Rattle.table.specs.declared.Written.the-variants as written
 
+-- the refusal of a number
 refusalOf : ℕ → Refusal
 refusalOf n =
     pick (eqb n 1) UnknownKind

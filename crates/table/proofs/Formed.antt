@@ -1,5 +1,4 @@
 -- The test of a table holds of the well-formed tables and of no others. Assumes nothing.
--- ---- a table that passes is well formed
 use mathlib.Core.Bool.{Bool, true, false, not}
 use mathlib.Core.List.{List}
 use mathlib.Core.Logic.{_⊎_, inl, inr, ⊎-elim}
@@ -20,6 +19,8 @@ use Rattle.table.specs.declared.Table.{Table}
 use Rattle.table.specs.Table.{cellAt, outputAt, lineOf, stuckOf}
 use Rattle.table.specs.WellFormed.{WellFormed}
 use Rattle.table.specs.Test.{differ, fresh, labelRight, cellRight, rowRight, wellFormed, Tested}
+
+-- ---- a table that passes is well formed
 
 both-no : (a b : Bool) → not (both a b) ≡ true → a ≡ true → b ≡ true → ⊥
 both-no true true h p q = clash false h refl

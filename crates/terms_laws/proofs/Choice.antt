@@ -1,5 +1,4 @@
 -- The choice: there is exactly one, no set-aside test is in it, and striking those out leaves it. Assumes nothing.
--- ---- there is exactly one
 use mathlib.Core.Logic.{_⊎_, inl, inr, ⊎-elim}
 use mathlib.Core.Path.{_≡_, sym, ap, _∙_, subst}
 use Prim.Native.Nat.{ℕ, zero, suc, _^_, _≤_, _<_}
@@ -18,6 +17,8 @@ use Rattle.table.specs.declared.Table.{Table}
 use Rattle.terms.specs.Choice.{testWeight, IsChoice, Choice}
 use Rattle.terms.specs.Terms.{TestOf, Separates, GoalPair, Counts, Reaches, Covers, Outdoes, Aside, Kept}
 use Rattle.terms_laws.proofs.Decided.{decided-reaches, decided-aside}
+
+-- ---- there is exactly one
 
 pub choice-one : (tb : Table) (goal : Goal) (allowed : ℕ → Type 0) (s s' : ℕ) → IsChoice tb goal allowed s → IsChoice tb goal allowed s' → s ≡ s'
 choice-one tb goal allowed s s' c c' =

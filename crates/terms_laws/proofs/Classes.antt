@@ -73,7 +73,7 @@ module _ (out : ℕ → ℕ → ℕ) (tests : ℕ) where
   pub alike-trans : (a b c : ℕ) → alike out tests a b ≡ true → alike out tests b c ≡ true → alike out tests a c ≡ true
   alike-trans a b c h k = alike-of a c (λ t w. alike-at a b t h w ∙ alike-at b c t k w)
 
-  -- what is alike to one of two alike columns, or not, is so to the other
+  -- what is unlike one of two alike columns is unlike the other
   unlike-trans : (a b c : ℕ) → alike out tests a b ≡ true → alike out tests b c ≡ false → alike out tests a c ≡ false
   unlike-trans a b c h k = go (alike out tests a c) refl
     where

@@ -1,3 +1,4 @@
 pub mod Classes
 pub mod Decided
 pub mod Choice
+pub mod Told

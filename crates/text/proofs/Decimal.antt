@@ -1,5 +1,4 @@
 -- Laws of decimals: their value is the number, and none starts with a zero but 0's own. Assumes nothing.
--- more digits than are needed change nothing
 use mathlib.Core.List.{List, [], _∷_, _++_}
 use mathlib.Core.Logic.{⊎-elim}
 use mathlib.Core.Path.{_≡_, refl, sym, ap, _∙_}
@@ -11,6 +10,7 @@ use lib.ListN.{getD, length, length-append, List·getD-append}
 use Rattle.folds.proofs.Below.{lt-or-ge}
 use Rattle.text.specs.Text.{decimalOf, digits}
 
+-- more digits than are needed change nothing
 enough : (k m n : ℕ) → n < k → n < m → digits k n ≡ digits m n
 unfolding digits
 enough zero m n h l = absurd (omega arith)

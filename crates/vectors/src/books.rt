@@ -1,4 +1,4 @@
-// The readers of a book.
+// The calls on a book.
 use crate::input;
 use crate::input::wide;
 use crate::show;
@@ -133,4 +133,22 @@ pub fn record(case: &[u8], table: Table) {
         input::number(case, 16),
     );
     step(&case[25..], input::number(case, 0), SoFar { table, stage });
+}
+
+fn write_report(book: &[u8], buf: &mut [u8]) {
+    show::written(report::report(book, buf));
+    show::lent(buf);
+}
+
+// The lent buffer's length, the byte that fills it, a book.
+pub fn text_of(case: &[u8]) {
+    if case.len() < 3 {
+        return;
+    }
+    let mut space = input::space(input::byte(case, 2));
+    let n = io::count(
+        input::short(input::byte(case, 0), input::byte(case, 1)),
+        &space,
+    );
+    write_report(&case[3..], &mut space[..n]);
 }

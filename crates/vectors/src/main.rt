@@ -11,6 +11,7 @@ fn ask(command: u8, case: &[u8], table: Table) {
     match command {
         b'C' => calls::choose(case, table),
         b'D' => calls::dictionary_of(case, table),
+        b'O' => books::text_of(case),
         b'P' => books::records(case),
         b'Q' => calls::questions(table),
         b'R' => books::record(case, table),

@@ -5,9 +5,9 @@ use mathlib.Core.List.{List}
 use mathlib.Core.Logic.{⊎-elim}
 use mathlib.Core.Path.{_≡_, refl, sym, ap, _∙_}
 use Prim.Native.Nat.{ℕ, zero, suc, _+_, _-_, _*_, _/_, _≤_, _<_}
-use native.Mathlib.Nat.{mul-sub, mul-add, mul-one, mul-left-comm}
+use native.Mathlib.Nat.{le-antisymm, mul-sub, mul-add, mul-one, mul-left-comm}
 use native.Mathlib.Omega.{arith}
-use borrow.Author.Tests.{lt-ltb, le-ltb, eq-eqb, ne-eqb, not-true}
+use borrow.Author.Tests.{lt-ltb, eq-eqb, ne-eqb, not-true}
 use lib.Dec.{ltb}
 use lib.ListN.{length, getD, drop}
 use lib.Seq.{getD-drop, getD-take}
@@ -15,7 +15,7 @@ use Rattle.folds.specs.Fold.{pick, count, first}
 use Rattle.folds.proofs.Below.{lt-or-ge, eq-or-ne}
 use Rattle.folds.proofs.Bools.{both-true, both-left, both-right, clash}
 use Rattle.folds.proofs.Count.{count-yes, count-mono, count-less}
-use Rattle.folds.proofs.First.{first-below, first-has}
+use Rattle.folds.proofs.First.{first-below, first-has, first-le}
 use Rattle.folds.proofs.Joined.{joined-part, joined-mono, rows-at}
 use Rattle.folds.proofs.Gather.{gather-length}
 use Rattle.lent.specs.Lent.{setNumber, WritesOnto}
@@ -28,7 +28,7 @@ use Rattle.terms.specs.Columns.{agrees, alike, lowest, lowestOf, classNumber, o
 use Rattle.terms.specs.Terms.{classOf, classCount}
 use Rattle.terms_laws.proofs.Classes.{gather-get, alike-at, alike-sym, lowest-le, lowest-alike, lowest-of, class-lowest, signature-of, signature-at}
 use Rattle.witness.specs.Witness.{separates, lowestTest, witnessOf, above, witnesses, sheetUnder, sheetOf}
-use Rattle.witness.proofs.Rows.{above-count}
+use Rattle.witness.proofs.Rows.{witness-found, witness-none, above-count}
 use Rattle.witness.proofs.Size.{rowsTo, rows-sum, sheet-size}
 
 -- tests that agree have one lowest number
@@ -37,7 +37,7 @@ unfolding first
 first-same p q zero e = refl
 first-same p q (suc n) e = rw (e zero (omega arith), first-same (λ i. p (suc i)) (λ i. q (suc i)) n (λ i w. e (suc i) (omega arith)))
 
--- twice the bytes before the row of class i of k
+-- the bytes before the row of class i of k, from twice their number
 row-place : (i k sum : ℕ) → 2 * sum + (i * i + i) ≡ 2 * (i * k) → sum ≡ i * (2 * k - i - 1) / 2
 row-place i k sum h =
     let a : 2 * k - i - 1 ≡ 2 * k - (i + 1) = omega arith in
@@ -68,12 +68,10 @@ module _ (out : ℕ → ℕ → ℕ) (tests s : ℕ) where
       ap (λ (m : ℕ). pick (ltb m tests) m 255) e
 
   low-witness : (a b : ℕ) → lowestTest out tests s a b < tests → witnessOf out tests s a b ≡ lowestTest out tests s a b
-  unfolding witnessOf
-  low-witness a b w = rw (lt-ltb (lowestTest out tests s a b) tests w)
+  low-witness a b w = sym (witness-found out tests s a b _ refl w)
 
   no-witness : (a b : ℕ) → tests ≤ lowestTest out tests s a b → witnessOf out tests s a b ≡ 255
-  unfolding witnessOf
-  no-witness a b w = rw (le-ltb (lowestTest out tests s a b) tests w)
+  no-witness a b w = sym (witness-none out tests s a b (le-antisymm w (first-le (separates out s a b) tests)))
 
   -- test t is the first test of the set in which the signatures of the columns a and b differ
   pub record FirstIn (t a b : ℕ) : Type 0 where

@@ -1,8 +1,7 @@
 use Prim.Native.Nat.{_-_}
-use native.Mathlib.Omega.{arith}
 use borrow.Author.Needs.{needs}
 use lib.ListN.{length}
-use Rattle.book.proofs.Loop.{Reads, begins, turn, moved, onwards}
+use Rattle.book.proofs.Loop.{Reads, reading}
 use Rattle.book.proofs.read_book.Statement.{statement}
 use Rattle.book.proofs.read_book.Tie as tie
 
@@ -16,7 +15,7 @@ begin-requires : tie.Need-begin-requires Inv-loop μ-loop
 begin-requires c κs = search needs
 
 loop-holds : tie.Need-loop-holds Inv-loop μ-loop
-loop-holds c = begins _ _ (c .begin .ensures)
+loop-holds c = search reading
 
 step-requires : tie.Need-step-requires Inv-loop μ-loop
 step-requires c κs = c .loop .inv .counts
@@ -25,22 +24,22 @@ enum-told : tie.Need-enum-told Inv-loop μ-loop
 enum-told c = search needs
 
 loop-less : tie.Need-loop-less Inv-loop μ-loop
-loop-less c = let g = moved _ _ _ _ (c .before .before .before .before .loop .inv) (c .before .before .before .step .ensures) _ (c .enum-told .given .1) in omega (arith, g .further, g .inside)
+loop-less c = search reading
 
 loop-again : tie.Need-loop-again Inv-loop μ-loop
-loop-again c = onwards _ _ _ _ (c .before .before .before .before .loop .inv) (c .before .before .before .step .ensures) _ (c .enum-told .given .1)
+loop-again c = search reading
 
 enum-told-2 : tie.Need-enum-told-2 Inv-loop μ-loop
 enum-told-2 c = search needs
 
 returns : tie.Need-returns Inv-loop μ-loop
-returns c = rw (c .before .enum-told2 .given .1) at (turn _ _ _ _ (c .before .before .before .before .before .loop .inv) (c .before .before .before .before .step .ensures))
+returns c = search reading
 
 enum-known-outcome : tie.Need-enum-known-outcome Inv-loop μ-loop
 enum-known-outcome c = search needs
 
 returns-2 : tie.Need-returns-2 Inv-loop μ-loop
-returns-2 c = rw (c .before .before .outcome .given .1) at (turn _ _ _ _ (c .before .before .before .before .before .before .loop .inv) (c .before .before .before .before .before .step .ensures))
+returns-2 c = search reading
 
 pub read-book-spec : {M : Type 1} → statement M
 read-book-spec =

@@ -15,7 +15,11 @@ use Rattle.dictionary.proofs.write_row.Statement.{statement}
 use Rattle.dictionary.proofs.write_row.Tie as tie
 
 abbrev Inv-loop : tie.InvT-loop
-Inv-loop cells tests set c row₀ j₀ i₀ row j i = (i ≤ tests) × (j ≡ count (has set) i) × (row ≡ onto (gather (has set) (outputOf (cellAt cells) c) i) row₀) × (length row ≡ length row₀)
+Inv-loop cells tests set c row₀ j₀ i₀ row j i =
+    (i ≤ tests)
+    × (j ≡ count (has set) i)
+    × (row ≡ onto (gather (has set) (outputOf (cellAt cells) c) i) row₀)
+    × (length row ≡ length row₀)
 
 abbrev μ-loop : tie.MeasureT-loop
 μ-loop cells tests set c row₀ j₀ i₀ row j i = tests - i
@@ -43,7 +47,12 @@ loop-less c = search needs
 
 loop-again : tie.Need-loop-again Inv-loop μ-loop
 unfolding outputOf
-loop-again c = (search needs, ⊎-elim (λ w. search tally) (λ w. search tally) (c .if1 .came), ⊎-elim (λ w. search gathers) (λ w. search gathers) (c .if1 .came), ⊎-elim (λ w. search keeps) (λ w. search keeps) (c .if1 .came))
+loop-again c = (
+  search needs,
+  ⊎-elim (λ w. search tally) (λ w. search tally) (c .if1 .came),
+  ⊎-elim (λ w. search gathers) (λ w. search gathers) (c .if1 .came),
+  ⊎-elim (λ w. search keeps) (λ w. search keeps) (c .if1 .came),
+)
 
 same-length : tie.Need-same-length Inv-loop μ-loop
 same-length c = search needs

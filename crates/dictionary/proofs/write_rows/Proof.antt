@@ -14,7 +14,11 @@ use Rattle.dictionary.proofs.write_rows.Statement.{statement}
 use Rattle.dictionary.proofs.write_rows.Tie as tie
 
 abbrev Inv-loop : tie.InvT-loop
-Inv-loop cells tests set columns n buf₀ at₀ i₀ buf at i = (i ≤ columns) × (at ≡ length (rowsUnder (cellAt cells) tests set i)) × (buf ≡ onto (rowsUnder (cellAt cells) tests set i) buf₀) × (length buf ≡ length buf₀)
+Inv-loop cells tests set columns n buf₀ at₀ i₀ buf at i =
+    (i ≤ columns)
+    × (at ≡ length (rowsUnder (cellAt cells) tests set i))
+    × (buf ≡ onto (rowsUnder (cellAt cells) tests set i) buf₀)
+    × (length buf ≡ length buf₀)
 
 abbrev μ-loop : tie.MeasureT-loop
 μ-loop cells tests set columns n buf₀ at₀ i₀ buf at i = columns - i
@@ -47,7 +51,12 @@ loop-less : tie.Need-loop-less Inv-loop μ-loop
 loop-less c = search needs
 
 loop-again : tie.Need-loop-again Inv-loop μ-loop
-loop-again c = (search needs, ⊎-elim (λ w. search (rows-at, row-size)) (λ w. search rows-stay) (c .if1 .came), ⊎-elim (λ w. search (rows-put, row-size)) (λ w. search rows-pass) (c .if1 .came), ⊎-elim (λ w. search kept-part) (λ w. search keeps) (c .if1 .came))
+loop-again c = (
+  search needs,
+  ⊎-elim (λ w. search (rows-at, row-size)) (λ w. search rows-stay) (c .if1 .came),
+  ⊎-elim (λ w. search (rows-put, row-size)) (λ w. search rows-pass) (c .if1 .came),
+  ⊎-elim (λ w. search kept-part) (λ w. search keeps) (c .if1 .came),
+)
 
 same-length : tie.Need-same-length Inv-loop μ-loop
 same-length c = search needs

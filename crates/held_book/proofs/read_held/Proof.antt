@@ -1,12 +1,14 @@
 use Prim.Native.Nat.{_-_}
 use borrow.Author.Needs.{needs}
 use lib.ListN.{length}
-use Rattle.held_book.proofs.Onwards.{OnTheWay, held}
+use Rattle.book.specs.Given.{Reached}
+use Rattle.book.proofs.Loop.{Reads}
+use Rattle.held_book.proofs.Onwards.{held}
 use Rattle.held_book.proofs.read_held.Statement.{statement}
 use Rattle.held_book.proofs.read_held.Tie as tie
 
 abbrev Inv-loop : tie.InvT-loop
-Inv-loop book place₀ sofar₀ place sofar = OnTheWay book place sofar
+Inv-loop book place₀ sofar₀ place sofar = Reads book place sofar × Reached book place sofar
 
 abbrev μ-loop : tie.MeasureT-loop
 μ-loop book place₀ sofar₀ place sofar = length book - place
@@ -15,7 +17,7 @@ begin-requires : tie.Need-begin-requires Inv-loop μ-loop
 begin-requires c κs = search needs
 
 loop-holds : tie.Need-loop-holds Inv-loop μ-loop
-loop-holds c = search held
+loop-holds c = (search held, search held)
 
 step-held-requires : tie.Need-step-held-requires Inv-loop μ-loop
 step-held-requires c κs = search needs
@@ -27,7 +29,7 @@ loop-less : tie.Need-loop-less Inv-loop μ-loop
 loop-less c = search held
 
 loop-again : tie.Need-loop-again Inv-loop μ-loop
-loop-again c = search held
+loop-again c = (search held, search held)
 
 enum-told-2 : tie.Need-enum-told-2 Inv-loop μ-loop
 enum-told-2 c = search needs

@@ -13,7 +13,10 @@ use Rattle.classes.proofs.columns.numbers.Statement.{statement}
 use Rattle.classes.proofs.columns.numbers.Tie as tie
 
 abbrev Inv-loop : tie.InvT-loop
-Inv-loop cells tests columns of₀ next₀ i₀ of next i = (i ≤ columns) × (next ≡ count (lowest (cellAt cells) tests) i) × (of ≡ onto (listed (classNumber (cellAt cells) tests) i) unnumbered)
+Inv-loop cells tests columns of₀ next₀ i₀ of next i =
+    (i ≤ columns)
+    × (next ≡ count (lowest (cellAt cells) tests) i)
+    × (of ≡ onto (listed (classNumber (cellAt cells) tests) i) unnumbered)
 
 abbrev μ-loop : tie.MeasureT-loop
 μ-loop cells tests columns of₀ next₀ i₀ of next i = columns - i
@@ -44,7 +47,11 @@ loop-less : tie.Need-loop-less Inv-loop μ-loop
 loop-less c = search needs
 
 loop-again : tie.Need-loop-again Inv-loop μ-loop
-loop-again c = (search needs, ⊎-elim (λ w. search old-next) (λ w. search new-next) (c .if1 .came), ⊎-elim (λ w. search old-number) (λ w. search new-number) (c .if1 .came))
+loop-again c = (
+  search needs,
+  ⊎-elim (λ w. search old-next) (λ w. search new-next) (c .if1 .came),
+  ⊎-elim (λ w. search old-number) (λ w. search new-number) (c .if1 .came),
+)
 
 returns : tie.Need-returns Inv-loop μ-loop
 returns c = search numbers-end

@@ -15,7 +15,11 @@ use Rattle.witness.proofs.sheet.write_row.Statement.{statement}
 use Rattle.witness.proofs.sheet.write_row.Tie as tie
 
 abbrev Inv-loop : tie.InvT-loop
-Inv-loop cells tests set columns lows a row₀ j₀ i₀ row j i = (i ≤ columns) × (j ≡ count (above (cellAt cells) tests a) i) × (row ≡ onto (gather (above (cellAt cells) tests a) (witnessOf (cellAt cells) tests set a) i) row₀) × (length row ≡ length row₀)
+Inv-loop cells tests set columns lows a row₀ j₀ i₀ row j i =
+    (i ≤ columns)
+    × (j ≡ count (above (cellAt cells) tests a) i)
+    × (row ≡ onto (gather (above (cellAt cells) tests a) (witnessOf (cellAt cells) tests set a) i) row₀)
+    × (length row ≡ length row₀)
 
 abbrev μ-loop : tie.MeasureT-loop
 μ-loop cells tests set columns lows a row₀ j₀ i₀ row j i = columns - i
@@ -42,7 +46,12 @@ loop-less : tie.Need-loop-less Inv-loop μ-loop
 loop-less c = search needs
 
 loop-again : tie.Need-loop-again Inv-loop μ-loop
-loop-again c = (search needs, ⊎-elim (λ w. search (tally, above-in)) (λ w. search (tally, above-in)) (c .if1 .came), ⊎-elim (λ w. search (gathers, above-in)) (λ w. search (gathers, above-in)) (c .if1 .came), ⊎-elim (λ w. search keeps) (λ w. search keeps) (c .if1 .came))
+loop-again c = (
+  search needs,
+  ⊎-elim (λ w. search (tally, above-in)) (λ w. search (tally, above-in)) (c .if1 .came),
+  ⊎-elim (λ w. search (gathers, above-in)) (λ w. search (gathers, above-in)) (c .if1 .came),
+  ⊎-elim (λ w. search keeps) (λ w. search keeps) (c .if1 .came),
+)
 
 same-length : tie.Need-same-length Inv-loop μ-loop
 same-length c = search needs

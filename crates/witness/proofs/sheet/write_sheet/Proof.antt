@@ -15,7 +15,12 @@ use Rattle.witness.proofs.sheet.write_sheet.Statement.{statement}
 use Rattle.witness.proofs.sheet.write_sheet.Tie as tie
 
 abbrev Inv-loop : tie.InvT-loop
-Inv-loop cells tests set columns k buf₀ lows left₀ at₀ i₀ buf left at i = (i ≤ columns) × (left + count (lowest (cellAt cells) tests) i ≡ count (lowest (cellAt cells) tests) columns) × (at ≡ length (joined (lowest (cellAt cells) tests) (witnesses (cellAt cells) tests set columns) i)) × (buf ≡ onto (joined (lowest (cellAt cells) tests) (witnesses (cellAt cells) tests set columns) i) buf₀) × (length buf ≡ length buf₀)
+Inv-loop cells tests set columns k buf₀ lows left₀ at₀ i₀ buf left at i =
+    (i ≤ columns)
+    × (left + count (lowest (cellAt cells) tests) i ≡ count (lowest (cellAt cells) tests) columns)
+    × (at ≡ length (joined (lowest (cellAt cells) tests) (witnesses (cellAt cells) tests set columns) i))
+    × (buf ≡ onto (joined (lowest (cellAt cells) tests) (witnesses (cellAt cells) tests set columns) i) buf₀)
+    × (length buf ≡ length buf₀)
 
 abbrev μ-loop : tie.MeasureT-loop
 μ-loop cells tests set columns k buf₀ lows left₀ at₀ i₀ buf left at i = columns - i
@@ -54,7 +59,13 @@ loop-less : tie.Need-loop-less Inv-loop μ-loop
 loop-less c = search needs
 
 loop-again : tie.Need-loop-again Inv-loop μ-loop
-loop-again c = (search needs, ⊎-elim (λ w. search (left-yes, low-in)) (λ w. search (left-no, low-in)) (c .if1 .came), ⊎-elim (λ w. search (rows-at, left-size, low-in)) (λ w. search (rows-stay, low-in)) (c .if1 .came), ⊎-elim (λ w. search (rows-put, left-size, low-in)) (λ w. search (rows-pass, low-in)) (c .if1 .came), ⊎-elim (λ w. search kept-part) (λ w. search keeps) (c .if1 .came))
+loop-again c = (
+  search needs,
+  ⊎-elim (λ w. search (left-yes, low-in)) (λ w. search (left-no, low-in)) (c .if1 .came),
+  ⊎-elim (λ w. search (rows-at, left-size, low-in)) (λ w. search (rows-stay, low-in)) (c .if1 .came),
+  ⊎-elim (λ w. search (rows-put, left-size, low-in)) (λ w. search (rows-pass, low-in)) (c .if1 .came),
+  ⊎-elim (λ w. search kept-part) (λ w. search keeps) (c .if1 .came),
+)
 
 same-length : tie.Need-same-length Inv-loop μ-loop
 same-length c = search needs

@@ -1,0 +1,1 @@
+// What follows from the promise of choose: laws in proofs/. No code.
