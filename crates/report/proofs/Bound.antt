@@ -34,6 +34,7 @@ use Rattle.table.specs.declared.Written.{Written}
 use Rattle.terms.specs.Columns.{lowest}
 use Rattle.text.proofs.Decimal.{decimal-length}
 
+-- 30 for the sizes, 320 for the four sets, 109 for each of 61 classes without its members, 365 for all members
 abbrev pub longest : ℕ
 longest = 7364
 

@@ -43,12 +43,10 @@ fn page_of(book: &[u8], page: &mut [u8]) -> usize
     let verdict = reading.verdict;
     match verdict {
         Verdict::Accepted => table_page(page, reading.table),
-        Verdict::Refused(why) => lines::refused(
-            page,
-            0,
-            items::wide(table::number(why)),
-            reading.place,
-        ),
+        Verdict::Refused(why) => {
+            let number = items::wide(table::number(why));
+            lines::refused(page, 0, number, reading.place)
+        }
     }
 }
 
