@@ -8,3 +8,4 @@ pub mod Onto
 pub mod Joined
 pub mod Gather
 pub mod Decide
+pub mod Lengths
