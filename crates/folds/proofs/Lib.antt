@@ -11,3 +11,4 @@ pub mod Rows
 pub mod All
 pub mod Gather
 pub mod Decide
+pub mod Lengths

@@ -1,6 +1,6 @@
 -- No text is longer than 7,364 bytes, piece by piece. Assumes nothing.
 use mathlib.Core.Bool.{Bool, true, false}
-use mathlib.Core.List.{List, []}
+use mathlib.Core.List.{List}
 use mathlib.Core.Path.{_≡_, refl, _∙_}
 use Prim.Native.Nat.{ℕ, zero, suc, _+_, _*_, _^_, _≤_, _<_}
 use native.Mathlib.Omega.{arith}
@@ -17,7 +17,9 @@ use Rattle.classes.specs.Classes.{classesOf}
 use Rattle.folds.proofs.Count.{count-le}
 use Rattle.folds.specs.Fold.{always, count, first, joined, pick, total}
 use Rattle.lent.specs.Lent.{roomNumber}
-use Rattle.report.proofs.Sums.{lengthOf, rows-most, rows-total, total-first, total-most, total-once, total-plus, total-zero, whenLength}
+use Rattle.folds.proofs.Joined.{joined-none}
+use Rattle.folds.proofs.Total.{total-more}
+use Rattle.folds.proofs.Lengths.{lengthOf, rows-more, rows-most, rows-total, total-first, total-most, total-once, total-plus, total-zero, whenLength}
 use Rattle.report.specs.Answer.{IsText, ReportIs, TextOf}
 use Rattle.report.specs.Text.{asideWord, classHead, classLine, classLines, classTail, detectWord, diagnoseWord, essentialWord, inClass, listText, memberText, membersText, noneWord, outputItem, refusedText, setLine, setLines, signatureText, sizesLine, spaced, tableText, testsText}
 use Rattle.sets.specs.Sets.{has}
@@ -66,14 +68,16 @@ membersLength : List ℕ → List ℕ → List ℕ → ℕ → ℕ → ℕ
 membersLength lines stuck of n k = length (membersText lines stuck of n k)
 
 members-total : (lines stuck of : List ℕ) (n m : ℕ) → total (membersLength lines stuck of n) m ≤ total (lengthOf (memberText lines stuck)) n
-unfolding membersLength membersText joined inClass total whenLength lengthOf
-members-total lines stuck of zero m = omega (arith, total-zero (membersLength lines stuck of 0) m (λ i l. refl))
+unfolding membersLength membersText inClass lengthOf
+members-total lines stuck of zero m =
+    omega (arith, total-zero (membersLength lines stuck of 0) m (λ k l. rw (joined-none (inClass of k) (memberText lines stuck)) refl))
 members-total lines stuck of (suc n) m =
     omega (
       arith,
-      total-plus (membersLength lines stuck of n) (λ k. whenLength (eqb (getD of n 0) k) (memberText lines stuck n)) (membersLength lines stuck of (suc n)) m (λ k. length-append (joined (inClass of k) (memberText lines stuck) n) (pick (eqb (getD of n 0) k) (memberText lines stuck n) [])),
-      members-total lines stuck of n m,
+      total-plus (membersLength lines stuck of n) (λ k. whenLength (eqb (getD of n 0) k) (memberText lines stuck n)) (membersLength lines stuck of (suc n)) m (λ k. rows-more (inClass of k) (memberText lines stuck) n),
       total-once (getD of n 0) (memberText lines stuck n) m,
+      members-total lines stuck of n m,
+      total-more (lengthOf (memberText lines stuck)) n,
     )
 
 fault-most : (lines stuck : List ℕ) (f : ℕ) → getD lines f 0 < 256 → getD stuck f 0 ≤ 1 → length (memberText lines stuck (suc f)) ≤ 6

@@ -1,6 +1,5 @@
 pub mod Pieces
 pub mod Numbers
-pub mod Sums
 pub mod Bound
 pub mod Page
 pub mod Pins

@@ -50,10 +50,14 @@ total-once v row (suc n) = ⊎-elim
 unfoldable pub lengthOf : (ℕ → List ℕ) → ℕ → ℕ
 lengthOf g i = length (g i)
 
+pub rows-more : (p : ℕ → Bool) (g : ℕ → List ℕ) (n : ℕ) → length (joined p g (suc n)) ≡ length (joined p g n) + whenLength (p n) (g n)
+unfolding joined whenLength
+rows-more p g n = length-append (joined p g n) (pick (p n) (g n) [])
+
 pub rows-total : (p : ℕ → Bool) (g : ℕ → List ℕ) (n : ℕ) → length (joined p g n) ≤ total (lengthOf g) n
-unfolding joined total lengthOf
+unfolding joined total lengthOf whenLength
 rows-total p g zero = omega arith
-rows-total p g (suc n) = rw length-append (omega (arith, rows-total p g n, row (p n)))
+rows-total p g (suc n) = omega (arith, rows-more p g n, rows-total p g n, row (p n))
   where
     row : (b : Bool) → length (pick b (g n) []) ≤ length (g n)
     row true = omega arith
