@@ -9,13 +9,13 @@ use native.Mathlib.Omega.{arith}
 use borrow.Author.Tests.{ltb-true}
 use lib.Dec.{ltb}
 use lib.ListN.{getD, length, replicate, set}
-use Rattle.adder.specs.Adder.{adderOutput, adderTable, answered, answersBelow, answersOf, correctOutput, differing, lineLabel, noLabels, nothing, rowFilled, rowsFilled, same, stuckLabel}
-use Rattle.adder.specs.declared.Answer.{Answer}
-use Rattle.folds.specs.Fold.{both, every, listed, onto}
+use Rattle.folds.specs.Fold.{both, every, always, listed, onto}
 use Rattle.folds.proofs.Bools.{both-left, both-right}
 use Rattle.folds.proofs.Every.{every-at}
-use Rattle.folds.proofs.Gather.{listed-start, listed-store}
+use Rattle.folds.proofs.Gather.{gather-end, listed-start, listed-store}
 use Rattle.table.specs.Table.{placeOf}
+use Rattle.adder.specs.Adder.{adderOutput, adderTable, answered, answersBelow, answersOf, correctOutput, differing, lineLabel, noLabels, nothing, rowFilled, rowsFilled, same, stuckLabel}
+use Rattle.adder.specs.declared.Answer.{Answer}
 
 module _ (f : ℕ → ℕ → ℕ) (t : ℕ) (cells : List ℕ) where
   pub row-start : cells ≡ rowFilled f t 0 cells
@@ -92,10 +92,7 @@ module _ (g : ℕ → ℕ) where
   pub labels-store : (f v : ℕ) (s : List ℕ) → s ≡ onto (listed g f) noLabels → f < 10 → v ≡ g f → set s f v ≡ onto (listed g (f + 1)) noLabels
   labels-store f v s e l ev = rw e (listed-store g f noLabels v (omega (arith, labels-long)) ev)
 
-  pub labels-end : (f n : ℕ) (s : List ℕ) → f ≤ n → n ≤ f → s ≡ onto (listed g f) noLabels → s ≡ onto (listed g n) noLabels
-  labels-end f n s h k e = e ∙ ap (λ (m : ℕ). onto (listed g m) noLabels) (le-antisymm h k)
-
 pub table-right : (cells lines stuck : List ℕ) (f : ℕ) → cells ≡ answered 36 → f ≤ 10 → 10 ≤ f → lines ≡ onto (listed lineLabel f) noLabels → stuck ≡ onto (listed stuckLabel f) noLabels
     → record { tests = 8; faults = 10; cells = cells; lines = lines; stuck = stuck } ≡ adderTable
 unfolding adderTable
-table-right cells lines stuck f ec h k el es = rw (ec, gates-right, labels-end lineLabel f 10 lines h k el, labels-end stuckLabel f 10 stuck h k es)
+table-right cells lines stuck f ec h k el es = rw (ec, gates-right, gather-end always lineLabel 10 f noLabels lines el h k, gather-end always stuckLabel 10 f noLabels stuck es h k)

@@ -1,6 +1,6 @@
 -- The book of a well-formed table leads to its end record with that table. Assumes nothing.
-use mathlib.Core.Bool.{Bool, true, false}
-use mathlib.Core.List.{List, _++_, append-assoc}
+use mathlib.Core.Bool.{true, false}
+use mathlib.Core.List.{List, _++_}
 use mathlib.Core.Logic.{inl, inr, ⊎-elim}
 use mathlib.Core.Path.{_≡_, refl, sym, _∙_}
 use Prim.Native.Nat.{ℕ, zero, suc, _+_, _≤_, _<_}
@@ -10,11 +10,11 @@ use borrow.Author.Tests.{le-ltb, lt-leb, ne-eqb, eqb-true, eqb-false, not-true, 
 use lib.Dec.{eqb}
 use lib.ListN.{length, getD, set}
 use lib.Seq.{getD-set-same, getD-set-other, ext-getD}
-use Rattle.folds.specs.Fold.{every, always}
+use Rattle.folds.specs.Fold.{joined, every, always}
 use Rattle.folds.proofs.Below.{lt-or-ge, eq-or-ne, below-cases}
-use Rattle.folds.proofs.Bools.{both-false}
+use Rattle.folds.proofs.Bools.{both-false, clash}
 use Rattle.folds.proofs.Gather.{always-true}
-use Rattle.folds.proofs.Rows.{rowsFrom, joined-from, rows-none, rows-take, rows-skip}
+use Rattle.folds.proofs.Rows.{joined-run}
 use Rattle.table.specs.Table.{emptyTable, outputAt, lineOf, stuckOf}
 use Rattle.table.specs.WellFormed.{WellFormed}
 use Rattle.table.specs.declared.Table.{Table}
@@ -238,29 +238,22 @@ module _ (t : Table) (w : WellFormed t) (o : Long t) where
     long-at : {rest : List ℕ} {P : Stage → Table → Type 0} (a : Along book rest P) → Long (a .table)
     long-at a = reached-good (a .reached) .long
 
-    tests-run : (n k : ℕ) (rest : List ℕ) → k + n ≡ t .tests → Along book (rowsFrom always (testBytes t) k n ++ rest) (At-tests k) → Along book rest (At-tests (t .tests))
+    tests-run : (rest : List ℕ) → Along book (joined always (testBytes t) (t .tests) ++ rest) (At-tests 0) → Along book rest (At-tests (t .tests))
     unfolding testBytes
-    tests-run zero k rest e a = let q : k ≡ t .tests = omega arith in rw q at (rw (rows-none always (testBytes t) k) at a)
-    tests-run (suc n) k rest e a =
-        tests-run n (k + 1) rest (omega arith)
-        (step (rw (rows-take always (testBytes t) k n (always-true k), append-assoc) at a))
+    tests-run rest a = joined-run always (testBytes t) (t .tests) (λ k rest. Along book rest (At-tests k)) step (λ k rest h e. clash _ (always-true k) e) rest a
       where
-        step : Along book (recordBytes (Test (outputAt t k 0)) ++ (rowsFrom always (testBytes t) (k + 1) n ++ rest)) (At-tests k) → Along book (rowsFrom always (testBytes t) (k + 1) n ++ rest) (At-tests (k + 1))
-        step b =
+        step : (k : ℕ) (rest : List ℕ) → k < t .tests → always k ≡ true → Along book (recordBytes (Test (outputAt t k 0)) ++ rest) (At-tests k) → Along book rest (At-tests (k + 1))
+        step k rest h e b =
             go-on (At-tests (k + 1)) (Test (outputAt t k 0)) b (withTest (b .table) (outputAt t k 0)) Tests
             (test-step book (b .place) (b .table) (b .stage) _ (outputAt t k 0) (b .left) (b .holds .0) (omega (arith, b .holds .1 .tests, few)))
             (omega arith, more-tests k (b .table) (long-at b) (omega (arith, few)) (b .holds .1))
 
-    faults-run : (n k : ℕ) (rest : List ℕ) → k + n ≡ t .faults → Along book (rowsFrom always (faultBytes t) k n ++ rest) (At-faults k) → Along book rest (At-faults (t .faults))
+    faults-run : (rest : List ℕ) → Along book (joined always (faultBytes t) (t .faults) ++ rest) (At-faults 0) → Along book rest (At-faults (t .faults))
     unfolding faultBytes
-    faults-run zero k rest e a = let q : k ≡ t .faults = omega arith in rw q at (rw (rows-none always (faultBytes t) k) at a)
-    faults-run (suc n) k rest e a =
-        faults-run n (k + 1) rest (omega arith)
-        (step (rw (rows-take always (faultBytes t) k n (always-true k), append-assoc) at a))
+    faults-run rest a = joined-run always (faultBytes t) (t .faults) (λ k rest. Along book rest (At-faults k)) step (λ k rest h e. clash _ (always-true k) e) rest a
       where
-        step : Along book (recordBytes (Fault (lineOf t k) (stuckOf t k)) ++ (rowsFrom always (faultBytes t) (k + 1) n ++ rest)) (At-faults k) → Along book (rowsFrom always (faultBytes t) (k + 1) n ++ rest) (At-faults (k + 1))
-        step b =
-            let h : k < t .faults = omega arith in
+        step : (k : ℕ) (rest : List ℕ) → k < t .faults → always k ≡ true → Along book (recordBytes (Fault (lineOf t k) (stuckOf t k)) ++ rest) (At-faults k) → Along book rest (At-faults (k + 1))
+        step k rest h e b =
             go-on (At-faults (k + 1)) (Fault (lineOf t k) (stuckOf t k)) b (withFault (b .table) (lineOf t k) (stuckOf t k)) Faults
             (fault-step book (b .place) (b .table) (b .stage) _ (lineOf t k) (stuckOf t k) (b .left) (b .holds .0) (omega (arith, b .holds .1 .faults, fews)) (w .stuck-fit k h) (fresh-label k (b .table) h (b .holds .1)))
             (omega arith, more-faults k (b .table) (long-at b) h (b .holds .1))
@@ -270,65 +263,48 @@ module _ (t : Table) (w : WellFormed t) (o : Long t) where
         → Along book rest (At-responses n) → Along book rest (At-responses m)
     pass n m l same a = along (At-responses m) a (before-more (a .stage) n m l (a .holds .0), later n m (a .table) l same (a .holds .1))
 
-    row-run : (f n i : ℕ) (rest : List ℕ) → i + n ≡ t .tests → f < t .faults → Along book (rowsFrom (answersWrong t f) (responseBytes t f) i n ++ rest) (At-responses (orderOf f i)) → Along book rest (At-responses (orderOf f (t .tests)))
+    row-run : (f : ℕ) (rest : List ℕ) → f < t .faults → Along book (joined (answersWrong t f) (responseBytes t f) (t .tests) ++ rest) (At-responses (orderOf f 0)) → Along book rest (At-responses (orderOf f (t .tests)))
     unfolding answersWrong responseBytes
-    row-run f zero i rest e hf a = let q : i ≡ t .tests = omega arith in rw q at (rw (rows-none (answersWrong t f) (responseBytes t f) i) at a)
-    row-run f (suc n) i rest e hf a = row-run f n (i + 1) rest (omega arith) hf (step (answersWrong t f i) refl)
+    row-run f rest hf a = joined-run (answersWrong t f) (responseBytes t f) (t .tests) (λ i rest. Along book rest (At-responses (orderOf f i))) took passed rest a
       where
-        hi : i < t .tests
-        hi = omega arith
-
-        next : orderOf f i + 1 ≡ orderOf f (i + 1)
-        next = omega arith
-
-        took : Along book (recordBytes (Response i f (outputAt t i (f + 1))) ++ (rowsFrom (answersWrong t f) (responseBytes t f) (i + 1) n ++ rest)) (At-responses (orderOf f i)) → (outputAt t i 0 ≡ outputAt t i (f + 1) → ⊥) → Along book (rowsFrom (answersWrong t f) (responseBytes t f) (i + 1) n ++ rest) (At-responses (orderOf f (i + 1)))
-        took b ne =
+        took : (i : ℕ) (rest : List ℕ) → i < t .tests → answersWrong t f i ≡ true → Along book (recordBytes (Response i f (outputAt t i (f + 1))) ++ rest) (At-responses (orderOf f i)) → Along book rest (At-responses (orderOf f (i + 1)))
+        took i rest hi x b =
             let c = b .holds .1 in
+            let ne : outputAt t i 0 ≡ outputAt t i (f + 1) → ⊥ = eqb-false _ _ (not-true (eqb (outputAt t i 0) (outputAt t i (f + 1))) x) in
+            let next : orderOf f i + 1 ≡ orderOf f (i + 1) = omega arith in
             go-on (At-responses (orderOf f (i + 1))) (Response i f (outputAt t i (f + 1))) b (withResponse (b .table) i f (outputAt t i (f + 1))) (Responses f i)
             (response-step book (b .place) (b .table) (b .stage) _ i f (outputAt t i (f + 1)) (b .left) (before-rank (b .stage) _ (b .holds .0)) (omega (arith, hi, c .tests)) (omega (arith, hf, c .faults))
             (before-after (b .stage) f i (omega (arith, hi, few)) (b .holds .0)) (λ z. ne (sym (c .healthy i hi) ∙ z)))
             ((omega arith, omega (arith, hi, few)), rw next at (more-responses i f (b .table) (long-at b) hi hf c))
 
-        step : (x : Bool) → answersWrong t f i ≡ x → Along book (rowsFrom (answersWrong t f) (responseBytes t f) (i + 1) n ++ rest) (At-responses (orderOf f (i + 1)))
-        step true x =
-            took (rw (rows-take (answersWrong t f) (responseBytes t f) i n x, append-assoc) at a) (eqb-false _ _ (not-true (eqb (outputAt t i 0) (outputAt t i (f + 1))) x))
-        step false x =
+        passed : (i : ℕ) (rest : List ℕ) → i < t .tests → answersWrong t f i ≡ false → Along book rest (At-responses (orderOf f i)) → Along book rest (At-responses (orderOf f (i + 1)))
+        passed i rest hi x b =
             let same = eqb-true _ _ (not-false (eqb (outputAt t i 0) (outputAt t i (f + 1))) x) in
             pass (orderOf f i) (orderOf f (i + 1)) (omega arith)
             (λ j g h k y z.
             let p : j ≡ i = omega (arith, few) in
             let q : g ≡ f = omega (arith, few) in
             rw (p, q) same)
-            (rw (rows-skip (answersWrong t f) (responseBytes t f) i n x) at a)
+            b
 
-    responses-run : (n f : ℕ) (rest : List ℕ) → f + n ≡ t .faults → Along book (rowsFrom always (responsesOf t) f n ++ rest) (At-responses (orderOf f 0)) → Along book rest (At-responses (orderOf (t .faults) 0))
+    responses-run : (rest : List ℕ) → Along book (joined always (responsesOf t) (t .faults) ++ rest) (At-responses (orderOf 0 0)) → Along book rest (At-responses (orderOf (t .faults) 0))
     unfolding responsesOf
-    responses-run zero f rest e a = let q : f ≡ t .faults = omega arith in rw q at (rw (rows-none always (responsesOf t) f) at a)
-    responses-run (suc n) f rest e a =
-        responses-run n (f + 1) rest (omega arith)
-        (pass (orderOf f (t .tests)) (orderOf (f + 1) 0) (omega (arith, few)) (λ i g h k x y. absurd (omega (arith, few)))
-        (row-run f (t .tests) 0 (rowsFrom always (responsesOf t) (f + 1) n ++ rest) (omega arith) (omega arith)
-        (rw (rows-take always (responsesOf t) f n (always-true f), append-assoc, joined-from (answersWrong t f) (responseBytes t f) (t .tests)) at a)))
+    responses-run rest a = joined-run always (responsesOf t) (t .faults) (λ f rest. Along book rest (At-responses (orderOf f 0))) step (λ f rest h e. clash _ (always-true f) e) rest a
+      where
+        step : (f : ℕ) (rest : List ℕ) → f < t .faults → always f ≡ true → Along book (responsesOf t f ++ rest) (At-responses (orderOf f 0)) → Along book rest (At-responses (orderOf (f + 1) 0))
+        step f rest h e b =
+            pass (orderOf f (t .tests)) (orderOf (f + 1) 0) (omega (arith, few)) (λ i g h k x y. absurd (omega (arith, few))) (row-run f rest h b)
 
   -- ---- the whole book
 
-  abbrev grouped : List ℕ
-  grouped =
-      rowsFrom always (testBytes t) 0 (t .tests)
-      ++ (rowsFrom always (faultBytes t) 0 (t .faults) ++ (rowsFrom always (responsesOf t) 0 (t .faults) ++ recordBytes (End (t .tests) (t .faults))))
-
-  groups : bookOf t ≡ grouped
-  unfolding bookOf
-  groups = rw (joined-from always (testBytes t) (t .tests), joined-from always (faultBytes t) (t .faults), joined-from always (responsesOf t) (t .faults))
-
-  at-start : Along (bookOf t) grouped (At-tests 0)
+  at-start : Along (bookOf t) (bookOf t) (At-tests 0)
   unfolding emptyTable
   at-start = record {
     place = 0;
     table = emptyTable;
     stage = Tests;
     reached = begun;
-    left = groups;
+    left = refl;
     holds = (omega arith, record { tests = refl; faults = refl; outputs = λ i h. absurd (omega arith) });
   }
 
@@ -354,7 +330,8 @@ module _ (t : Table) (w : WellFormed t) (o : Long t) where
 
   -- the table's book leads to its end record, with the whole table
   pub run : Along (bookOf t) (recordBytes (End (t .tests) (t .faults))) At-end
+  unfolding bookOf
   run =
-      whole (responses-run (bookOf t) (t .faults) 0 _ (omega arith)
-      (from-responses (faults-run (bookOf t) (t .faults) 0 _ (omega arith)
-      (from-faults (tests-run (bookOf t) (t .tests) 0 _ (omega arith) at-start)))))
+      whole (responses-run (bookOf t) _
+      (from-responses (faults-run (bookOf t) _
+      (from-faults (tests-run (bookOf t) _ at-start)))))

@@ -1,13 +1,12 @@
 -- The loop that numbers the columns: `next` is the number of the next new class. Assumes nothing.
 use mathlib.Core.List.{List}
-use mathlib.Core.Path.{_≡_, refl, sym, ap, _∙_}
+use mathlib.Core.Path.{_≡_, refl, sym, _∙_}
 use Prim.Native.Nat.{ℕ, _+_, _≤_, _<_}
-use native.Mathlib.Nat.{le-antisymm}
 use native.Mathlib.Omega.{arith}
 use lib.ListN.{length, getD, set}
-use Rattle.folds.specs.Fold.{count, listed, onto}
+use Rattle.folds.specs.Fold.{always, count, listed, onto}
 use Rattle.folds.proofs.Count.{count-yes, count-no}
-use Rattle.folds.proofs.Gather.{listed-start, listed-store, listed-at}
+use Rattle.folds.proofs.Gather.{gather-end, listed-start, listed-store, listed-at}
 use Rattle.terms.specs.Columns.{lowest, lowestOf, classNumber}
 use Rattle.terms_laws.proofs.Classes.{is-lowest, not-lowest, lowest-alike, class-same, class-of-lowest}
 use Rattle.classes.specs.Classes.{unnumbered, numbersOf}
@@ -43,4 +42,4 @@ module _ (out : ℕ → ℕ → ℕ) (tests : ℕ) where
 
   pub numbers-end : (s : List ℕ) (i n : ℕ) → i ≤ n → n ≤ i → s ≡ onto (listed (classNumber out tests) i) unnumbered → s ≡ numbersOf out tests n
   unfolding numbersOf
-  numbers-end s i n w u e = e ∙ ap (λ (m : ℕ). onto (listed (classNumber out tests) m) unnumbered) (le-antisymm w u)
+  numbers-end s i n w u e = gather-end always (classNumber out tests) n i unnumbered s e w u

@@ -1,8 +1,8 @@
--- The rows of `joined` from row k on. Assumes nothing.
+-- A run over the rows of `joined`, from the first on. Assumes nothing.
 use mathlib.Core.Bool.{Bool, true, false}
 use mathlib.Core.List.{List, [], _++_, append-nil, append-assoc}
 use mathlib.Core.Path.{_≡_, refl, ap, _∙_}
-use Prim.Native.Nat.{ℕ, zero, suc, _+_}
+use Prim.Native.Nat.{ℕ, zero, suc, _+_, _<_}
 use native.Mathlib.Nat.{add-zero}
 use native.Mathlib.Numerals.{add-one}
 use native.Mathlib.Omega.{arith}
@@ -10,7 +10,7 @@ use Rattle.folds.specs.Fold.{pick, joined}
 
 module _ (p : ℕ → Bool) (g : ℕ → List ℕ) where
   -- n rows from row k
-  unfoldable pub rowsFrom : ℕ → ℕ → List ℕ
+  unfoldable rowsFrom : ℕ → ℕ → List ℕ
   rowsFrom k zero = []
   rowsFrom k (suc n) = pick (p k) (g k) [] ++ rowsFrom (k + 1) n
 
@@ -21,18 +21,22 @@ module _ (p : ℕ → Bool) (g : ℕ → List ℕ) where
       let e : k + suc n ≡ k + 1 + n = omega arith in
       ap (joined p g) e ∙ joined-split n (k + 1) ∙ rw (add-one, append-assoc)
 
-  pub joined-from : (n : ℕ) → joined p g n ≡ rowsFrom 0 n
+  joined-from : (n : ℕ) → joined p g n ≡ rowsFrom 0 n
   unfolding joined
   joined-from n = let e : 0 + n ≡ n = omega arith in rw e at (joined-split n 0)
 
-  pub rows-none : (k : ℕ) → rowsFrom k 0 ≡ []
-  unfolding rowsFrom
-  rows-none k = refl
+  -- A k of what lies ahead: a row that is taken, or passed over, leads from A k to A (k + 1)
+  module _ (m : ℕ) (A : ℕ → List ℕ → Type 0)
+      (took : (k : ℕ) (rest : List ℕ) → k < m → p k ≡ true → A k (g k ++ rest) → A (k + 1) rest)
+      (passed : (k : ℕ) (rest : List ℕ) → k < m → p k ≡ false → A k rest → A (k + 1) rest) where
+    run-from : (n k : ℕ) (rest : List ℕ) → k + n ≡ m → A k (rowsFrom k n ++ rest) → A m rest
+    unfolding rowsFrom
+    run-from zero k rest e a = let q : k ≡ m = omega arith in rw q at a
+    run-from (suc n) k rest e a = run-from n (k + 1) rest (omega arith) (go (p k) refl (rw append-assoc at a))
+      where
+        go : (b : Bool) → p k ≡ b → A k (pick b (g k) [] ++ (rowsFrom (k + 1) n ++ rest)) → A (k + 1) (rowsFrom (k + 1) n ++ rest)
+        go true t h = took k (rowsFrom (k + 1) n ++ rest) (omega arith) t h
+        go false t h = passed k (rowsFrom (k + 1) n ++ rest) (omega arith) t h
 
-  pub rows-take : (k n : ℕ) → p k ≡ true → rowsFrom k (suc n) ≡ g k ++ rowsFrom (k + 1) n
-  unfolding rowsFrom
-  rows-take k n h = rw h
-
-  pub rows-skip : (k n : ℕ) → p k ≡ false → rowsFrom k (suc n) ≡ rowsFrom (k + 1) n
-  unfolding rowsFrom
-  rows-skip k n h = rw h
+    pub joined-run : (rest : List ℕ) → A 0 (joined p g m ++ rest) → A m rest
+    joined-run rest a = run-from m 0 rest (omega arith) (rw joined-from at a)
