@@ -1,6 +1,6 @@
 -- Tests that antt computes, over all subsets of a table's tests, and what they say. Assumes nothing.
 use mathlib.Core.Bool.{Bool, true, not}
-use mathlib.Core.List.{List, [], _∷_}
+use mathlib.Core.List.{List}
 use mathlib.Core.Logic.{inl, inr, ⊎-elim}
 use mathlib.Core.Path.{_≡_, subst}
 use Prim.Native.Nat.{ℕ, _-_, _^_, _≤_}
@@ -15,17 +15,14 @@ use Rattle.sets.specs.Sets.{bit, has, within, size, one, Within, Before, Preced
 use Rattle.sets.proofs.Bits.{has-bit, lacks-bit, within-tells, below-of-bits}
 use Rattle.table.specs.Test.{wellFormed}
 use Rattle.table.proofs.Formed.{formed}
-use Rattle.book.specs.Reading.{readBook}
-use Rattle.table.specs.Answers.{numberOf, verdictNumber}
+use Rattle.table.specs.Answers.{numberOf}
 use Rattle.table.specs.WellFormed.{WellFormed}
-use Rattle.table.specs.declared.Reading.{Reading}
-use Rattle.small_books.specs.Claim.{Saying, classes, choice, aside, capped, TrueOf, AllTrue, Entry, Holds, AllHold}
 use Rattle.table.specs.declared.Chosen.{Chosen}
 use Rattle.table.specs.declared.Chosen.the-variants.{Tests, Refused}
 use Rattle.table.specs.declared.Goal.{Goal}
 use Rattle.table.specs.declared.Table.{Table}
 use Rattle.terms.specs.Choice.{Choice}
-use Rattle.terms.specs.Terms.{TestOf, Reaches, classCount}
+use Rattle.terms.specs.Terms.{TestOf, Reaches}
 use Rattle.cover.specs.Answer.{keptSet, Exactly, AsideTest}
 use Rattle.cover.specs.Collect.{some}
 use Rattle.cover.specs.Masks.{Hits, masksOf}
@@ -111,7 +108,7 @@ module _ (tb : Table) (goal : Goal) where
   unfoldable pub isChoice : ℕ → Bool
   isChoice s = both (within s (tb .tests)) (both (hits (masksOf tb goal) s) (eachReaching (precedes s)))
 
-  choice-by : (s : ℕ) → isChoice s ≡ true → Choice tb goal s
+  pub choice-by : (s : ℕ) → isChoice s ≡ true → Choice tb goal s
   unfolding isChoice
   choice-by s h =
       let rest : both (hits (masksOf tb goal) s) (eachReaching (precedes s)) ≡ true = both-right (within s (tb .tests)) _ h in
@@ -124,7 +121,7 @@ module _ (tb : Table) (goal : Goal) where
   unfoldable pub isAside : ℕ → Bool
   isAside s = eqb (2 ^ (tb .tests) - 1 - keptSet tb goal) s
 
-  aside-by : (s : ℕ) → isAside s ≡ true → Exactly (AsideTest tb goal) s
+  pub aside-by : (s : ℕ) → isAside s ≡ true → Exactly (AsideTest tb goal) s
   unfolding isAside
   aside-by s h = subst (Exactly (AsideTest tb goal)) (eqb-true _ _ h) (aside-exactly tb goal)
 
@@ -150,58 +147,8 @@ module _ (tb : Table) (goal : Goal) where
       λ s t r. ltb-true _ _ (each-reaching (exceeds cap) (both-right (eqb (numberOf why) 23) _ h) s t r),
     ))
 
-  capped-by : (cap : ℕ) (r : Chosen) → isCapped cap r ≡ true → ChoiceIs tb goal cap r
+  pub capped-by : (cap : ℕ) (r : Chosen) → isCapped cap r ≡ true → ChoiceIs tb goal cap r
   unfolding isCapped
   capped-by cap r h =
       let rest : both (leb cap 24) (capGives cap r) ≡ true = both-right (wellFormed tb) _ h in
       cap-by cap (formed tb (both-left (wellFormed tb) _ h)) (leb-true _ _ (both-left (leb cap 24) _ rest)) r (both-right (leb cap 24) _ rest)
-
--- ---- the tests of an entry
-
-unfoldable pub isTrue : Table → Saying → Bool
-isTrue tb (classes n) = eqb (classCount tb) n
-isTrue tb (choice goal s) = isChoice tb goal s
-isTrue tb (aside goal s) = isAside tb goal s
-isTrue tb (capped goal cap r) = isCapped tb goal cap r
-
-true-by : (tb : Table) (x : Saying) → isTrue tb x ≡ true → TrueOf tb x
-unfolding isTrue
-true-by tb (classes n) h = eqb-true _ _ h
-true-by tb (choice goal s) h = choice-by tb goal s h
-true-by tb (aside goal s) h = aside-by tb goal s h
-true-by tb (capped goal cap r) h = capped-by tb goal cap r h
-
-unfoldable pub areTrue : Table → List Saying → Bool
-areTrue tb [] = true
-areTrue tb (x ∷ xs) = both (isTrue tb x) (areTrue tb xs)
-
-all-true : (tb : Table) (xs : List Saying) → areTrue tb xs ≡ true → AllTrue tb xs
-unfolding areTrue
-all-true tb [] h = tt
-all-true tb (x ∷ xs) h = (true-by tb x (both-left (isTrue tb x) _ h), all-true tb xs (both-right (isTrue tb x) _ h))
-
-unfoldable pub read : Entry → Reading → Bool
-read e r = both (eqb (verdictNumber (r .verdict)) (e .number)) (both (eqb (r .place) (e .place)) (areTrue (r .table) (e .says)))
-
-unfoldable pub holds : Entry → Bool
-holds e = read e (readBook (e .book))
-
-holds-by : (e : Entry) → holds e ≡ true → Holds e
-unfolding holds read
-holds-by e h =
-    let rest : both (eqb (readBook (e .book) .place) (e .place)) (areTrue (readBook (e .book) .table) (e .says)) ≡ true =
-    both-right (eqb (verdictNumber (readBook (e .book) .verdict)) (e .number)) _ h in
-    record {
-      number = eqb-true _ _ (both-left (eqb (verdictNumber (readBook (e .book) .verdict)) (e .number)) _ h);
-      place = eqb-true _ _ (both-left (eqb (readBook (e .book) .place) (e .place)) _ rest);
-      says = all-true _ _ (both-right (eqb (readBook (e .book) .place) (e .place)) _ rest);
-    }
-
-unfoldable pub allHold : List Entry → Bool
-allHold [] = true
-allHold (e ∷ es) = both (holds e) (allHold es)
-
-pub all-hold : (es : List Entry) → allHold es ≡ true → AllHold es
-unfolding allHold
-all-hold [] h = tt
-all-hold (e ∷ es) h = (holds-by e (both-left (holds e) _ h), all-hold es (both-right (holds e) _ h))

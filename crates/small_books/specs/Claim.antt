@@ -8,6 +8,7 @@ use Rattle.cover.specs.Answer.{Exactly, AsideTest}
 use Rattle.table.specs.Answers.{verdictNumber}
 use Rattle.table.specs.declared.Chosen.{Chosen}
 use Rattle.table.specs.declared.Goal.{Goal}
+use Rattle.table.specs.declared.Reading.{Reading}
 use Rattle.table.specs.declared.Table.{Table}
 use Rattle.terms.specs.Choice.{Choice}
 use Rattle.terms.specs.Terms.{classCount}
@@ -41,11 +42,13 @@ pub record Entry : Type 0 where
   pub place : ℕ
   pub says : List Saying
 
-pub record Holds (e : Entry) : Type 0 where
-  pub number : verdictNumber (readBook (e .book) .verdict) ≡ e .number
-  pub place : readBook (e .book) .place ≡ e .place
-  pub says : AllTrue (readBook (e .book) .table) (e .says)
+-- the reading has the entry's number and place, and what is said is true of its table
+pub record Fits (e : Entry) (r : Reading) : Type 0 where
+  pub number : verdictNumber (r .verdict) ≡ e .number
+  pub place : r .place ≡ e .place
+  pub says : AllTrue (r .table) (e .says)
 
+-- the claim: each entry is what its book's reading gives
 abbrev pub AllHold : List Entry → Type 0
 AllHold [] = Unit {0}
-AllHold (e ∷ es) = Holds e × AllHold es
+AllHold (e ∷ es) = Fits e (readBook (e .book)) × AllHold es
