@@ -40,6 +40,7 @@ GOALS = ('detect', 'diagnose')
 REFUSALS = tuple(range(1, 13)) + tuple(range(20, 26))
 LEAST_OF_EACH = 50
 LARGEST = 2 ** 64 - 1
+EXAMPLES = ('c17', 'full-adder', 'hard-binary-2', 'hard-comb', 'hard-star-1', 'mux-4-1')
 T, F, R, E = ref.TEST, ref.FAULT, ref.RESPONSE, ref.END
 
 
@@ -373,6 +374,19 @@ def large_tables(cases, chance):
     ask_all(cases, chance)
 
 
+def example_books(cases, chance):
+    for name in EXAMPLES:
+        with open(os.path.join(ROOT, 'examples', name + '.book'), 'rb') as file:
+            cases.book(file.read())
+        cases.questions()
+        cases.choose(0, 24)
+        # the reference tries every smaller set first, and here the choice has 23 tests
+        if name != 'hard-comb':
+            cases.choose(1, 24)
+        ask_sheets(cases, chance)
+        ask_suspects(cases, chance)
+
+
 def spoiled(chance, table):
     """A table with one field spoiled, in each way in turn; some stay well formed."""
     tests, faults = table.tests, table.faults
@@ -620,6 +634,7 @@ def make():
     spoiled_tables(cases, chance)
     large_tables(cases, chance)
     reports(cases, chance)
+    example_books(cases, chance)
     return cases
 
 

@@ -11,6 +11,13 @@ pub fn wide(byte: u8) -> u64
     byte as u64
 }
 
+// Room for a case or a lent buffer, full of one byte.
+pub fn space(fill: u8) -> [u8; 8192]
+    ensures { λ r. ⌜ 8192 ≡ length r ⌝ }
+{
+    [fill; 8192]
+}
+
 // The byte at a place, and 0 past the end.
 pub fn byte(case: &[u8], at: usize) -> u8 {
     if case.len() <= at {
@@ -19,6 +26,7 @@ pub fn byte(case: &[u8], at: usize) -> u8 {
     case[at]
 }
 
+// Two bytes, the lowest first.
 pub fn short(low: u8, high: u8) -> isize {
     (wide(low) + wide(high) * 256) as isize
 }
@@ -33,13 +41,6 @@ fn half(case: &[u8], at: usize) -> u64
         | wide(byte(case, at + 3)) << 24
 }
 
-// Room for a case or a lent buffer, full of one byte.
-pub fn space(fill: u8) -> [u8; 8192]
-    ensures { λ r. ⌜ 8192 ≡ length r ⌝ }
-{
-    [fill; 8192]
-}
-
 // Eight bytes, the lowest first.
 pub fn number(case: &[u8], at: usize) -> usize
     requires { ⌜ at < 900 ⌝ }
@@ -47,6 +48,7 @@ pub fn number(case: &[u8], at: usize) -> usize
     (half(case, at) | half(case, at + 4) << 32) as usize
 }
 
+// Four bytes as a set or a cap.
 pub fn set(case: &[u8], at: usize) -> u32
     requires { ⌜ at < 900 ⌝ }
 {

@@ -18,6 +18,7 @@ pub fn mix(sum: u64, n: u64) -> u64 {
     (sum % 2147483647 * 16777619 + n % 2147483647 + 1) % 2147483647
 }
 
+// The sum with each of some bytes.
 pub fn mixed(sum: u64, bytes: &[u8]) -> u64 {
     let mut next = sum;
     let mut i = 0;
@@ -64,7 +65,7 @@ pub fn given(table: Table) -> Table {
     table
 }
 
-pub fn refused(why: Refusal) {
+fn refused(why: Refusal) {
     number(wide(table::number(why)));
     number(0);
 }
