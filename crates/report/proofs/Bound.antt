@@ -10,7 +10,7 @@ use lib.ListN.{getD, length, length-append}
 use Rattle.book.specs.Given.{Bytes}
 use Rattle.book.specs.Reading.{readBook}
 use Rattle.book_laws.proofs.Accepted.{accepted-gave, accepts-whole}
-use Rattle.book_laws.proofs.Cells.{cell-byte}
+use Rattle.table.proofs.Stored.{cell-byte}
 use Rattle.book_laws.proofs.Settles.{place-most}
 use Rattle.classes.proofs.Meaning.{count-given}
 use Rattle.classes.specs.Classes.{classesOf}

@@ -11,7 +11,7 @@ use mir.Syntax.{w8}
 use mir.Val.{Fits}
 use Rattle.book.specs.Reading.{readBook}
 use Rattle.book_laws.proofs.Accepted.{accepted-gave, accepts-whole}
-use Rattle.choice.proofs.Weights.{size-most}
+use Rattle.sets.proofs.Weight.{size-most}
 use Rattle.choice.specs.Answer.{ChoiceIs}
 use Rattle.cover.specs.Answer.{AsideTest, Exactly, Gives}
 use Rattle.folds.specs.Fold.{onto}

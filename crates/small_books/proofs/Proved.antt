@@ -4,7 +4,7 @@ use mathlib.Core.List.{List, [], _∷_}
 use mathlib.Core.Path.{_≡_, refl}
 use borrow.Author.Tests.{eqb-true}
 use lib.Dec.{eqb}
-use Rattle.folds.specs.Fold.{both, always, count, every, joined, single, total}
+use Rattle.folds.specs.Fold.{both, always, count, every, joined, single, some, total}
 use Rattle.folds.proofs.Bools.{both-left, both-right}
 use Rattle.sets.specs.Sets.{bit, has, one, share, within}
 use Rattle.table.specs.Answers.{verdictNumber}
@@ -22,7 +22,7 @@ use Rattle.cover.specs.Kept.{covers, follows, followsAt, hasAt, kept, outdone, 
 use Rattle.small_books.specs.Books.{smallBooks}
 use Rattle.small_books.specs.Claim.{Saying, classes, choice, aside, capped, TrueOf, AllTrue, Entry, Fits, AllHold}
 use Rattle.small_books.proofs.Test.{aside-by, capGives, capped-by, choice-by, eachReaching, exceeds, hits, hitsAt, hitting, isAside, isCapped, isChoice, leadsIn, precedes, sameIn}
-use Rattle.cover.specs.Collect as collect
+use Rattle.sets.specs.Collect as collect
 use Rattle.cover.specs.Masks as masks
 
 -- ---- the tests of an entry, and what they say
@@ -76,7 +76,7 @@ all-hold (e ∷ es) h =
 -- ---- the whole list
 
 computed : allHold smallBooks ≡ true
-unfolding allHold fits areTrue isTrue isChoice isAside isCapped capGives exceeds eachReaching hitting hits hitsAt precedes leadsIn sameIn smallBooks readBook stepAt ruleAt kindRule edgeRule unknownRule endRule responseRule faultRule testRule firstOf filled differs emptyTable cellAt placeOf wellFormed labelRight fresh differ rowRight cellRight every count total joined single always bit has within share one agrees alike apart lowest keptSet collect.setOf collect.withTest collect.some kept outdone outdoneBy covers used followsAt follows hasAt masks.masksOf masks.maskRow masks.counts masks.goalMask masks.maskOf masks.differs masks.goalPair
+unfolding allHold fits areTrue isTrue isChoice isAside isCapped capGives exceeds eachReaching hitting hits hitsAt precedes leadsIn sameIn smallBooks readBook stepAt ruleAt kindRule edgeRule unknownRule endRule responseRule faultRule testRule firstOf filled differs emptyTable cellAt placeOf wellFormed labelRight fresh differ rowRight cellRight every count total joined single always bit has within share one agrees alike apart lowest keptSet collect.setOf collect.withTest some kept outdone outdoneBy covers used followsAt follows hasAt masks.masksOf masks.maskRow masks.counts masks.goalMask masks.maskOf masks.differs masks.goalPair
 computed = refl
 
 pub small-books : AllHold smallBooks

@@ -24,12 +24,12 @@ use Rattle.table.specs.declared.Table.{Table}
 use Rattle.terms.specs.Choice.{Choice}
 use Rattle.terms.specs.Terms.{TestOf, Reaches}
 use Rattle.cover.specs.Answer.{keptSet, Exactly, AsideTest}
-use Rattle.cover.specs.Collect.{some}
+use Rattle.folds.specs.Fold.{some}
 use Rattle.cover.specs.Masks.{Hits, masksOf}
 use Rattle.cover.proofs.Aside.{aside-exactly}
-use Rattle.cover.proofs.Collect.{some-at}
+use Rattle.folds.proofs.Some.{some-at}
 use Rattle.cover.proofs.Goals.{hits-reaches, reaches-hits}
-use Rattle.cover.proofs.Shared.{shares, shares-not}
+use Rattle.sets.proofs.Shared.{shares, shares-not}
 use Rattle.choice.specs.Answer.{ChoiceIs}
 
 -- ---- the order of sets
