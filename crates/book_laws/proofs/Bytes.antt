@@ -1,64 +1,46 @@
 -- The book of a table is a list of bytes. Assumes nothing.
-use mathlib.Core.Bool.{Bool, true, false}
-use mathlib.Core.List.{List, [], _∷_, _++_}
-use Prim.Native.Nat.{ℕ, zero, suc, _+_, _<_}
+use Prim.Native.Nat.{ℕ, _+_, _<_}
 use native.Mathlib.Omega.{arith}
-use Rattle.folds.specs.Fold.{pick, joined, always}
+use Rattle.folds.specs.Fold.{joined, always}
+use Rattle.folds.proofs.All.{AllOf, all-of, all-read, all-append, joined-all}
 use Rattle.table.specs.Table.{outputAt}
 use Rattle.table.specs.WellFormed.{WellFormed, OfType}
 use Rattle.table.specs.declared.Table.{Table}
 use Rattle.table.proofs.Stored.{cell-byte}
 use Rattle.book.specs.BookOf.{testBytes, faultBytes, responseBytes, answersWrong, responsesOf, bookOf}
+use Rattle.book.specs.Step.{recordBytes}
+use Rattle.book.specs.declared.Record.the-variants.{End}
 use Rattle.book.specs.Given.{Bytes}
 
--- each byte by itself
-abbrev Each : List ℕ → Type 0
-Each [] = Unit {0}
-Each (x ∷ xs) = (x < 256) × Each xs
-
-pub each-byte : (xs : List ℕ) → Each xs → Bytes xs
-each-byte [] e i = omega arith
-each-byte (x ∷ xs) e zero = e .0
-each-byte (x ∷ xs) e (suc i) = each-byte xs (e .1) i
-
-pub each-append : (xs ys : List ℕ) → Each xs → Each ys → Each (xs ++ ys)
-each-append [] ys a b = b
-each-append (x ∷ xs) ys a b = (a .0, each-append xs ys (a .1) b)
-
-each-joined : (p : ℕ → Bool) (g : ℕ → List ℕ) (n : ℕ) → ((i : ℕ) → i < n → Each (g i)) → Each (joined p g n)
-unfolding joined
-each-joined p g zero h = tt
-each-joined p g (suc n) h = each-append (joined p g n) (pick (p n) (g n) []) (each-joined p g n (λ i l. h i (omega arith))) (go (p n))
-  where
-    go : (b : Bool) → Each (pick b (g n) [])
-    go true = h n (omega arith)
-    go false = tt
+abbrev pub byte : ℕ → Type 0
+byte x = x < 256
 
 module _ (tb : Table) (w : WellFormed tb) (o : OfType tb) where
   output : (t c : ℕ) → outputAt tb t c < 256
   output t c = cell-byte (tb .cells) (o .cells-bytes) t c
 
-  test-bytes : (t : ℕ) → Each (testBytes tb t)
+  test-bytes : (t : ℕ) → AllOf byte (testBytes tb t)
   unfolding testBytes
-  test-bytes t = (omega arith, (output t 0, tt))
+  test-bytes t = all-of byte (testBytes tb t) (omega arith, (output t 0, tt))
 
-  fault-bytes : (f : ℕ) → Each (faultBytes tb f)
+  fault-bytes : (f : ℕ) → AllOf byte (faultBytes tb f)
   unfolding faultBytes
-  fault-bytes f = (omega arith, (o .lines-bytes f, (o .stuck-bytes f, tt)))
+  fault-bytes f = all-of byte (faultBytes tb f) (omega arith, (o .lines-bytes f, (o .stuck-bytes f, tt)))
 
-  responses-bytes : (f : ℕ) → f < tb .faults → Each (responsesOf tb f)
+  responses-bytes : (f : ℕ) → f < tb .faults → AllOf byte (responsesOf tb f)
   unfolding responsesOf responseBytes
-  responses-bytes f k =
-      each-joined (answersWrong tb f) (responseBytes tb f) (tb .tests)
-      (λ t h. (omega arith, (omega (arith, w .tests-fit), (omega (arith, w .faults-fit), (output t (f + 1), tt)))))
+  responses-bytes f k = joined-all byte (answersWrong tb f) (responseBytes tb f) (tb .tests) (λ t h e.
+      all-of byte (responseBytes tb f t) (omega arith, (omega (arith, w .tests-fit), (omega (arith, w .faults-fit), (output t (f + 1), tt)))))
 
-  pub book-each : Each (bookOf tb)
+  end-bytes : AllOf byte (recordBytes (End (tb .tests) (tb .faults)))
+  end-bytes = all-of byte (recordBytes (End (tb .tests) (tb .faults))) (omega arith, (omega (arith, w .tests-fit), (omega (arith, w .faults-fit), tt)))
+
+  pub book-all : AllOf byte (bookOf tb)
   unfolding bookOf
-  book-each =
-      each-append (joined always (testBytes tb) (tb .tests)) _ (each-joined always (testBytes tb) (tb .tests) (λ t h. test-bytes t))
-      (each-append (joined always (faultBytes tb) (tb .faults)) _ (each-joined always (faultBytes tb) (tb .faults) (λ f h. fault-bytes f))
-      (each-append (joined always (responsesOf tb) (tb .faults)) _ (each-joined always (responsesOf tb) (tb .faults) (λ f h. responses-bytes f h))
-      (omega arith, (omega (arith, w .tests-fit), (omega (arith, w .faults-fit), tt)))))
+  book-all =
+      all-append byte (joined always (testBytes tb) (tb .tests)) _ (joined-all byte always (testBytes tb) (tb .tests) (λ t h e. test-bytes t))
+      (all-append byte (joined always (faultBytes tb) (tb .faults)) _ (joined-all byte always (faultBytes tb) (tb .faults) (λ f h e. fault-bytes f))
+      (all-append byte (joined always (responsesOf tb) (tb .faults)) _ (joined-all byte always (responsesOf tb) (tb .faults) (λ f h e. responses-bytes f h)) end-bytes))
 
   pub book-bytes : Bytes (bookOf tb)
-  book-bytes = each-byte (bookOf tb) book-each
+  book-bytes = all-read byte (omega arith) (bookOf tb) book-all

@@ -6,10 +6,10 @@ use mathlib.Core.Path.{_≡_, refl, sym, ap, _∙_}
 use Prim.Native.Nat.{ℕ, zero, suc, _+_, _≤_, _<_}
 use native.Mathlib.Omega.{arith}
 use lib.Dec.{lit≤}
-use lib.ListN.{length, take, replicate, length-append, length-replicate, List·getD-eq-default}
+use lib.ListN.{length, take, replicate, length-append, length-replicate}
 use lib.Seq.{take-append-le}
 use Rattle.folds.specs.Fold.{listed, always}
-use Rattle.folds.proofs.Below.{lt-or-ge}
+use Rattle.folds.proofs.All.{all-of, all-read, all-append, gather-all}
 use Rattle.folds.proofs.Gather.{listed-length, listed-get, always-true}
 use Rattle.folds.proofs.Joined.{joined-exact}
 use Rattle.table.specs.Table.{outputAt, lineOf}
@@ -24,7 +24,7 @@ use Rattle.book.specs.Given.{Bytes}
 use Rattle.book.specs.Reading.{readBook}
 use Rattle.book_laws.specs.Accepts.{Accepts}
 use Rattle.book_laws.proofs.Books.{book-accepts, accepted-most}
-use Rattle.book_laws.proofs.Bytes.{each-byte, each-append, book-each, book-bytes}
+use Rattle.book_laws.proofs.Bytes.{byte, book-all, book-bytes}
 
 -- ---- 24 tests and 60 faults, each of which answers every test wrong
 
@@ -69,12 +69,7 @@ full-typed = record {
   lines-long = listed-length line 60;
   stuck-long = length-replicate {A = ℕ} 60 0;
   cells-bytes = cells-of out small .3;
-  lines-bytes = λ f. ⊎-elim
-      (λ (h : f < 60). omega (arith, listed-get line 60 f h))
-      (λ (h : 60 ≤ f).
-      let n : length (listed line 60) ≤ f = rw (listed-length line 60) h in
-      rw (List·getD-eq-default (listed line 60) 0 n) (omega arith))
-      (lt-or-ge f 60);
+  lines-bytes = all-read byte (omega arith) (listed line 60) (gather-all byte always line 60 (λ f h e. omega arith));
   stuck-bytes = λ f. omega (arith, zero-label f);
 }
 
@@ -110,7 +105,7 @@ pub unsettled : (a : List ℕ) × (b : List ℕ) × Bytes a × Bytes b × (take 
 unsettled = (bookOf full, bookOf full ++ (0 ∷ []), book-bytes full full-formed full-typed, more, agree, apart)
   where
     more : Bytes (bookOf full ++ (0 ∷ []))
-    more = each-byte (bookOf full ++ (0 ∷ [])) (each-append (bookOf full) (0 ∷ []) (book-each full full-formed full-typed) (omega arith, tt))
+    more = all-read byte (omega arith) (bookOf full ++ (0 ∷ [])) (all-append byte (bookOf full) (0 ∷ []) (book-all full full-formed full-typed) (all-of byte (0 ∷ []) (omega arith, tt)))
 
     agree : take 5991 (bookOf full) ≡ take 5991 (bookOf full ++ (0 ∷ []))
     agree = sym (take-append-le 5991 (bookOf full) (0 ∷ []) (omega (arith, full-length)))

@@ -16,7 +16,23 @@ abbrev pub AllOf : (ℕ → Type 0) → List ℕ → Type 0
 AllOf Q xs = (k : ℕ) → k < length xs → Q (getD xs k 0)
 
 module _ (Q : ℕ → Type 0) where
-  all-append : (xs ys : List ℕ) → AllOf Q xs → AllOf Q ys → AllOf Q (xs ++ ys)
+  -- the same, one entry after the other
+  abbrev pub Each : List ℕ → Type 0
+  Each [] = Unit {0}
+  Each (x ∷ xs) = Q x × Each xs
+
+  pub all-of : (xs : List ℕ) → Each xs → AllOf Q xs
+  all-of [] e k l = absurd (omega arith)
+  all-of (x ∷ xs) e zero l = e .0
+  all-of (x ∷ xs) e (suc k) l = all-of xs (e .1) k (le-of-suc-le-suc l)
+
+  -- past its end a list is read as 0
+  pub all-read : Q 0 → (xs : List ℕ) → AllOf Q xs → (k : ℕ) → Q (getD xs k 0)
+  all-read q [] f k = q
+  all-read q (x ∷ xs) f zero = f zero (omega arith)
+  all-read q (x ∷ xs) f (suc k) = all-read q xs (λ k l. f (suc k) (omega arith)) k
+
+  pub all-append : (xs ys : List ℕ) → AllOf Q xs → AllOf Q ys → AllOf Q (xs ++ ys)
   all-append [] ys f g k l = g k l
   all-append (x ∷ xs) ys f g zero l = f zero (omega arith)
   all-append (x ∷ xs) ys f g (suc k) l = all-append xs ys (λ k l. f (suc k) (omega arith)) g k (le-of-suc-le-suc l)
@@ -57,11 +73,7 @@ module _ (Q : ℕ → Type 0) where
   module _ (p : ℕ → Bool) (f : ℕ → ℕ) (n : ℕ) where
     pub gather-all : ((i : ℕ) → i < n → p i ≡ true → Q (f i)) → AllOf Q (gather p f n)
     unfolding single
-    gather-all h = joined-all p (single f) n (λ i l e. one i (h i l e))
-      where
-        one : (i : ℕ) → Q (f i) → AllOf Q (f i ∷ [])
-        one i q zero l = q
-        one i q (suc k) l = absurd (omega arith)
+    gather-all h = joined-all p (single f) n (λ i l e. all-of (f i ∷ []) (h i l e, tt))
 
     pub gather-at : AllOf Q (gather p f n) → (i : ℕ) → i < n → p i ≡ true → Q (f i)
     unfolding single

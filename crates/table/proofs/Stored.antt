@@ -2,12 +2,13 @@
 use mathlib.Core.List.{List}
 use mathlib.Core.Logic.{⊎-elim}
 use mathlib.Core.Path.{_≡_, sym, _∙_}
-use Prim.Native.Nat.{ℕ, _+_, _*_, _/_, _%_, _≤_, _<_}
+use Prim.Native.Nat.{ℕ, _+_, _*_, _/_, _%_, _<_}
 use native.Mathlib.Omega.{arith}
-use lib.ListN.{length, getD, set, List·getD-eq-default}
+use lib.ListN.{length, getD, set}
 use lib.Seq.{getD-set-same, getD-set-other, ext-getD, set-out}
-use Rattle.folds.specs.Fold.{listed}
+use Rattle.folds.specs.Fold.{always, listed}
 use Rattle.folds.proofs.Gather.{listed-length, listed-get}
+use Rattle.folds.proofs.All.{all-read, gather-all}
 use Rattle.folds.proofs.Below.{lt-or-ge, eq-or-ne}
 use Rattle.table.specs.Table.{placeOf, cellAt}
 use Rattle.table.proofs.Cells.{place-fits, place-test, place-column}
@@ -69,9 +70,4 @@ cells-of out small = (listed f 1464, listed-length f 1464, read, bytes)
         listed-get f 1464 (t * 61 + c) (omega arith) ∙ rw (p, q)
 
     bytes : (i : ℕ) → getD (listed f 1464) i 0 < 256
-    bytes i = ⊎-elim
-        (λ (l : i < 1464). rw (listed-get f 1464 i l) (small (i / 61) (i % 61)))
-        (λ (l : 1464 ≤ i).
-        let n : length (listed f 1464) ≤ i = rw (listed-length f 1464) l in
-        rw (List·getD-eq-default (listed f 1464) 0 n) (omega arith))
-        (lt-or-ge i 1464)
+    bytes = all-read (λ x. x < 256) (omega arith) (listed f 1464) (gather-all (λ x. x < 256) always f 1464 (λ k l e. small (k / 61) (k % 61)))
