@@ -22,8 +22,8 @@ first. One table is at hand; a case that gives a table puts it there.
     S set outputs  the suspects
     W set size fill   the witness sheet
 
-Each case has one line of answers: the command and numbers. A list stands as one sum; a lent buffer of at most 24 bytes is
-written out besides.
+Each case has one line of answers: the command and numbers. A list stands as one sum; a lent buffer is written
+out besides, two hexadecimal digits a byte.
 """
 
 import os
@@ -147,9 +147,7 @@ class Cases:
         buffer = bytearray([fill]) * size
         number, count = call(self.table, chosen, buffer)
         self.count(number)
-        answers = [number, count, mixed(0, buffer)]
-        if len(buffer) <= 24:
-            answers += buffer
+        answers = [number, count, mixed(0, buffer), buffer.hex()]
         case = chosen.to_bytes(4, 'little') + size.to_bytes(2, 'little') + bytes([fill])
         self.add(command, case, answers)
 
@@ -166,9 +164,7 @@ class Cases:
             self.count(24)
         buffer = bytes([fill]) * size if short else text + bytes([fill]) * (size - len(text))
         answers = [24, 0] if short else [0, len(text)]
-        answers.append(mixed(0, buffer))
-        if size <= 24:
-            answers += buffer
+        answers += [mixed(0, buffer), buffer.hex()]
         self.add('O', size.to_bytes(2, 'little') + bytes([fill]) + book, answers)
 
     def suspects(self, chosen, outputs):
@@ -314,7 +310,7 @@ def ask_sheets(cases, chance):
     for chosen in some_sets(cases, chance):
         n = bin(chosen).count('1')
         for call, size in ((cases.dictionary, k * n), (cases.sheet, k * (k - 1) // 2)):
-            for lent in sorted({size, max(size - 1, 0), chance.of((0, size + 1, size + 4, size + 300))}):
+            for lent in sorted({size + 4, max(size - 1, 0), chance.of((0, size, size + 1))}):
                 call(chosen, lent, chance.of((0xa5, 0, 255, chance.below(256))))
     beyond = chance.of(sets_beyond(cases, chance))
     cases.dictionary(beyond, chance.of((0, 2000)), 0x5a)
@@ -621,7 +617,7 @@ def reports(cases, chance):
     books += wrong_records(chance)
     for book in books:
         size = len(ref.report(book))
-        for lent in sorted({size, size - 1, size + 4, chance.of((0, 1, size + 300))}):
+        for lent in sorted({size, size - 1, size + 4, chance.of((0, 1))}):
             cases.report(book, lent, chance.of((0xa5, 0, 255, 10)))
 
 

@@ -107,19 +107,45 @@ pub fn written(answer: Written) {
     }
 }
 
-// Prints each of a few bytes.
+const DIGITS: [u8; 16] = [
+    48,
+    49,
+    50,
+    51,
+    52,
+    53,
+    54,
+    55,
+    56,
+    57,
+    97,
+    98,
+    99,
+    100,
+    101,
+    102,
+];
+
+// Prints a byte as two hexadecimal digits.
+fn hex(byte: u8) {
+    let n = wide(byte) as usize;
+    let high = DIGITS[n / 16 % 16];
+    let low = DIGITS[n % 16];
+    let pair = [high, low];
+    io::write_all(1, &pair);
+}
+
 fn bytes(bytes: &[u8]) {
     let mut i = 0;
     while i < bytes.len() {
-        number(wide(bytes[i]));
+        hex(bytes[i]);
         i += 1;
     }
 }
 
-// Prints a lent buffer: its sum, and its bytes where they are few.
+// Prints a lent buffer: its sum, and each of its bytes.
 pub fn lent(buf: &[u8]) {
     number(mixed(0, buf));
-    if buf.len() <= 24 {
-        bytes(buf);
-    }
+    io::write_all(1, b" ");
+    bytes(buf);
 }
