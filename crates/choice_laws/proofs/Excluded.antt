@@ -6,9 +6,9 @@ use mathlib.Core.Path.{_≡_, refl, ap}
 use Prim.Native.Nat.{ℕ, suc, _<_}
 use native.Mathlib.Omega.{arith}
 use lib.ListN.{length, set}
-use Rattle.folds.specs.Fold.{both, every, total, joined, single, always, listed, onto}
+use Rattle.folds.specs.Fold.{both, every, total, joined, single, always, listed, onto, count, first}
 use Rattle.folds.proofs.Bools.{both-left, both-right}
-use Rattle.sets.specs.Sets.{bit, share, one}
+use Rattle.sets.specs.Sets.{bit, share, one, has}
 use Rattle.sets.specs.Collect.{withTest, setOf}
 use Rattle.sets.proofs.Bits.{below-of-bits}
 use Rattle.sets.proofs.Weight.{size-most}
@@ -21,8 +21,9 @@ use Rattle.table.specs.declared.Goal.the-variants.{Detect, Diagnose}
 use Rattle.table.specs.declared.Refusal.{Refusal}
 use Rattle.table.specs.declared.Table.{Table}
 use Rattle.table.proofs.Formed.{formed}
-use Rattle.terms.specs.Columns.{agrees}
-use Rattle.terms.specs.Terms.{TestOf}
+use Rattle.terms.specs.Choice.{Choice}
+use Rattle.terms.specs.Columns.{agrees, alike, apart as unlike, classNumber, lowest, lowestOf, outputOf}
+use Rattle.terms.specs.Terms.{TestOf, classOf, signature}
 use Rattle.cover.specs.Masks.{goalPair, differs, maskOf, goalMask, counts, maskRow, masksOf}
 use Rattle.choice.specs.Answer.{ChoiceIs}
 use Rattle.choice.proofs.Pins.{apart, choose-pins}
@@ -84,6 +85,7 @@ rows =
     ∷ (two, Diagnose, 2)
     ∷ (six, Detect, 6)
     ∷ (more, Detect, 5)
+    ∷ (two, Detect, 1)
     ∷ []
 
 right : Row → Bool
@@ -155,3 +157,8 @@ only-detecting p = omega (arith, same-set two Diagnose 2 (left .1 .1 .1 .0) 1 p)
 -- "Demanding separation of pairs that the whole table can't separate, and so refusing."
 pub demanding : (why : Refusal) → ChoiceIs unseen Detect 24 (Refused why) → ⊥
 demanding why p = apart unseen Detect 24 0 why (left .1 .0) p
+
+-- a set that detects need not tell two classes apart: under {0} the two faults of different classes have one signature
+pub detects-only : Choice two Detect 1 × (signature two 1 1 ≡ signature two 1 2) × (classOf two 1 ≡ classOf two 2 → ⊥)
+unfolding two small rowFrom rowsFrom emptyTable placeOf cellAt joined single has bit outputOf classNumber count lowest unlike alike lowestOf first every agrees
+detects-only = (left .1 .1 .1 .1 .1 .1 .0 .2, refl, λ e. let z : _≡_ {A = ℕ} 1 2 = e in omega arith)
