@@ -6,9 +6,9 @@ use mathlib.Core.Path.{_≡_, refl, ap}
 use Prim.Native.Nat.{ℕ, suc, _<_}
 use native.Mathlib.Omega.{arith}
 use lib.ListN.{length, set}
-use Rattle.folds.specs.Fold.{both, every, total, joined, single, always, listed, onto, count, first}
+use Rattle.folds.specs.Fold.{both, every, some, total, joined, single, always, listed, onto, count, first}
 use Rattle.folds.proofs.Bools.{both-left, both-right}
-use Rattle.sets.specs.Sets.{bit, share, one, has}
+use Rattle.sets.specs.Sets.{bit, has, within, share, one}
 use Rattle.sets.specs.Collect.{withTest, setOf}
 use Rattle.sets.proofs.Bits.{below-of-bits}
 use Rattle.sets.proofs.Weight.{size-most}
@@ -27,7 +27,7 @@ use Rattle.terms.specs.Terms.{TestOf, classOf, signature}
 use Rattle.cover.specs.Masks.{goalPair, differs, maskOf, goalMask, counts, maskRow, masksOf}
 use Rattle.choice.specs.Answer.{ChoiceIs}
 use Rattle.choice.proofs.Pins.{apart, choose-pins}
-use Rattle.choice_laws.proofs.Small.{hitsAll, firstIn, precedes, noBetter, isChoice, choice-of}
+use Rattle.choice_laws.proofs.Small.{sameIn, leadsIn, precedes, hitsAt, hits, hitting, eachReaching, isChoice, choice-by}
 
 -- ---- small tables: a row for each test, the correct output first, then that of each fault
 
@@ -106,7 +106,7 @@ meets : (r : Row) → right r ≡ true → Meets r
 unfolding right
 meets (tb, goal, s) h =
     let w = formed tb (both-left _ _ h) in
-    let c = choice-of tb goal s (both-right (wellFormed tb) _ h) in
+    let c = choice-by tb goal s (both-right (wellFormed tb) _ h) in
     (w, omega arith, c, size-most s (below-of-bits 24 s (λ t e. omega (arith, c .within t e, w .tests-fit))))
 
 claims-of : (rs : List Row) → allRight rs ≡ true → Claims rs
@@ -115,7 +115,7 @@ claims-of [] h = tt
 claims-of (r ∷ rs) h = (meets r (both-left _ _ h), claims-of rs (both-right (right r) _ h))
 
 left : Claims rows
-unfolding right allRight seen unseen equal two six more small rowFrom rowsFrom emptyTable placeOf cellAt onto joined single always wellFormed labelRight fresh differ rowRight cellRight every isChoice noBetter hitsAll precedes firstIn total share one bit masksOf maskRow counts goalMask goalPair maskOf setOf withTest differs agrees
+unfolding right allRight seen unseen equal two six more small rowFrom rowsFrom emptyTable placeOf cellAt onto joined single always wellFormed labelRight fresh differ rowRight cellRight every some isChoice eachReaching hitting hits hitsAt precedes leadsIn sameIn within has total share one bit masksOf maskRow counts goalMask goalPair maskOf setOf withTest differs agrees
 left = claims-of rows refl
 
 -- ---- what it excludes

@@ -21,7 +21,8 @@ use Rattle.cover.specs.Answer.{keptSet}
 use Rattle.cover.specs.Kept.{covers, follows, followsAt, hasAt, kept, outdone, outdoneBy, used}
 use Rattle.small_books.specs.Books.{smallBooks}
 use Rattle.small_books.specs.Claim.{Saying, classes, choice, aside, capped, TrueOf, AllTrue, Entry, Fits, AllHold}
-use Rattle.small_books.proofs.Test.{aside-by, capGives, capped-by, choice-by, eachReaching, exceeds, hits, hitsAt, hitting, isAside, isCapped, isChoice, leadsIn, precedes, sameIn}
+use Rattle.choice_laws.proofs.Small.{choice-by, eachReaching, hits, hitsAt, hitting, isChoice, leadsIn, precedes, sameIn}
+use Rattle.small_books.proofs.Test.{aside-by, capGives, capped-by, exceeds, isAside, isCapped}
 use Rattle.sets.specs.Collect as collect
 use Rattle.cover.specs.Masks as masks
 

@@ -1,18 +1,13 @@
--- Tests that antt computes, over all subsets of a table's tests, and what they say. Assumes nothing.
-use mathlib.Core.Bool.{Bool, true, not}
-use mathlib.Core.List.{List}
-use mathlib.Core.Logic.{inl, inr, ⊎-elim}
+-- Tests of a table that antt computes, beside that of its choice, and what they say. Assumes nothing.
+use mathlib.Core.Bool.{Bool, true}
+use mathlib.Core.Logic.{inr}
 use mathlib.Core.Path.{_≡_, subst}
 use Prim.Native.Nat.{ℕ, _-_, _^_, _≤_}
-use borrow.Author.Tests.{eqb-true, eqb-false, ne-eqb, leb-true, ltb-true, not-true}
-use lib.Bits.{bitAnd}
+use borrow.Author.Tests.{eqb-true, leb-true, ltb-true}
 use lib.Dec.{eqb, leb, ltb}
-use lib.ListN.{length, getD}
-use Rattle.folds.specs.Fold.{both, either, every}
-use Rattle.folds.proofs.Bools.{both-left, both-right, either-cases, either-second}
-use Rattle.folds.proofs.Every.{every-at, every-of}
-use Rattle.sets.specs.Sets.{bit, has, within, size, one, Within, Before, Precedes}
-use Rattle.sets.proofs.Bits.{has-bit, lacks-bit, within-tells, below-of-bits}
+use Rattle.folds.specs.Fold.{both}
+use Rattle.folds.proofs.Bools.{both-left, both-right}
+use Rattle.sets.specs.Sets.{within, size}
 use Rattle.table.specs.Test.{wellFormed}
 use Rattle.table.proofs.Formed.{formed}
 use Rattle.table.specs.Answers.{numberOf}
@@ -21,103 +16,12 @@ use Rattle.table.specs.declared.Chosen.{Chosen}
 use Rattle.table.specs.declared.Chosen.the-variants.{Tests, Refused}
 use Rattle.table.specs.declared.Goal.{Goal}
 use Rattle.table.specs.declared.Table.{Table}
-use Rattle.terms.specs.Choice.{Choice}
-use Rattle.terms.specs.Terms.{TestOf, Reaches}
 use Rattle.cover.specs.Answer.{keptSet, Exactly, AsideTest}
-use Rattle.folds.specs.Fold.{some}
-use Rattle.cover.specs.Masks.{Hits, masksOf}
 use Rattle.cover.proofs.Aside.{aside-exactly}
-use Rattle.folds.proofs.Some.{some-at}
-use Rattle.cover.proofs.Goals.{hits-reaches, reaches-hits}
-use Rattle.sets.proofs.Shared.{shares, shares-not}
 use Rattle.choice.specs.Answer.{ChoiceIs}
-
--- ---- the order of sets
-
-module _ (s s' : ℕ) where
-  unfoldable pub sameIn : ℕ → Bool
-  sameIn t = eqb (bit s t) (bit s' t)
-
-  -- t is the lowest test in which the two differ, and s holds it
-  unfoldable pub leadsIn : ℕ → Bool
-  leadsIn t = both (has s t) (both (not (has s' t)) (every sameIn t))
-
-  -- s has fewer tests; or as many, and is the same set or an earlier one
-  unfoldable pub precedes : Bool
-  precedes = either (ltb (size s) (size s')) (both (eqb (size s) (size s')) (either (eqb s s') (some leadsIn 24)))
-
-  leads : (t : ℕ) → leadsIn t ≡ true → Before s s'
-  unfolding leadsIn sameIn
-  leads t h =
-      let rest : both (not (has s' t)) (every sameIn t) ≡ true = both-right (has s t) _ h in (
-        t,
-        has-bit s t (both-left (has s t) _ h),
-        lacks-bit s' t (not-true _ (both-left (not (has s' t)) _ rest)),
-        λ u l. eqb-true _ _ (every-at sameIn t u (both-right (not (has s' t)) _ rest) l),
-      )
-
-  precedes-by : precedes ≡ true → Precedes one s s'
-  unfolding precedes
-  precedes-by h = ⊎-elim
-      (λ e. inl (ltb-true _ _ e))
-      (λ e. inr (
-        eqb-true _ _ (both-left (eqb (size s) (size s')) _ e),
-        ⊎-elim
-            (λ same. inl (eqb-true s s' same))
-            (λ d. let w = some-at leadsIn 24 d in inr (leads (w .0) (w .2)))
-            (either-cases (eqb s s') _ (both-right (eqb (size s) (size s')) _ e)),
-      ))
-      (either-cases (ltb (size s) (size s')) _ h)
-
--- ---- sets that hit every mask
-
-module _ (masks : List ℕ) where
-  -- the mask at k shares a test with s
-  unfoldable pub hitsAt : ℕ → ℕ → Bool
-  hitsAt s k = not (eqb (bitAnd (getD masks k 0) s) 0)
-
-  unfoldable pub hits : ℕ → Bool
-  hits s = every (hitsAt s) (length masks)
-
-  hits-all : (s : ℕ) → hits s ≡ true → Hits masks s
-  unfolding hits hitsAt
-  hits-all s h k l = shares (getD masks k 0) s (eqb-false _ _ (not-true _ (every-at (hitsAt s) (length masks) k h l)))
-
-  all-hits : (s : ℕ) → Hits masks s → hits s ≡ true
-  unfolding hits hitsAt
-  all-hits s h = every-of (hitsAt s) (length masks) (λ k l. rw (ne-eqb (bitAnd (getD masks k 0) s) 0 (λ e. shares-not (getD masks k 0) s e (h k l))))
-
-  -- s does not hit every mask, or has p
-  unfoldable pub hitting : (ℕ → Bool) → ℕ → Bool
-  hitting p s = either (not (hits s)) (p s)
-
--- ---- the tests of a table
+use Rattle.choice_laws.proofs.Small.{choice-by, each-reaching, eachReaching, isChoice}
 
 module _ (tb : Table) (goal : Goal) where
-  -- every set of the table's tests that reaches the goal has p
-  unfoldable pub eachReaching : (ℕ → Bool) → Bool
-  eachReaching p = every (hitting (masksOf tb goal) p) (2 ^ (tb .tests))
-
-  each-reaching : (p : ℕ → Bool) → eachReaching p ≡ true → (s : ℕ) → Within (TestOf tb) s → Reaches tb goal s → p s ≡ true
-  unfolding eachReaching hitting
-  each-reaching p h s w r =
-      either-second (not (hits (masksOf tb goal) s)) (p s)
-      (every-at (hitting (masksOf tb goal) p) (2 ^ (tb .tests)) s h (below-of-bits (tb .tests) s w))
-      (rw (all-hits (masksOf tb goal) s (reaches-hits tb goal s r)))
-
-  unfoldable pub isChoice : ℕ → Bool
-  isChoice s = both (within s (tb .tests)) (both (hits (masksOf tb goal) s) (eachReaching (precedes s)))
-
-  pub choice-by : (s : ℕ) → isChoice s ≡ true → Choice tb goal s
-  unfolding isChoice
-  choice-by s h =
-      let rest : both (hits (masksOf tb goal) s) (eachReaching (precedes s)) ≡ true = both-right (within s (tb .tests)) _ h in
-      record {
-        within = within-tells s (tb .tests) (both-left (within s (tb .tests)) _ h);
-        reaches = hits-reaches tb goal s (hits-all (masksOf tb goal) s (both-left (hits (masksOf tb goal) s) _ rest));
-        first = λ s' w r. precedes-by s s' (each-reaching (precedes s) (both-right (hits (masksOf tb goal) s) _ rest) s' w r);
-      }
-
   unfoldable pub isAside : ℕ → Bool
   isAside s = eqb (2 ^ (tb .tests) - 1 - keptSet tb goal) s
 
@@ -130,8 +34,8 @@ module _ (tb : Table) (goal : Goal) where
 
   -- the cap gives r: the choice, which is within it, or 23, where no set within it reaches the goal
   unfoldable pub capGives : ℕ → Chosen → Bool
-  capGives cap (Tests s) = both (isChoice s) (leb (size s) cap)
-  capGives cap (Refused why) = both (eqb (numberOf why) 23) (eachReaching (exceeds cap))
+  capGives cap (Tests s) = both (isChoice tb goal s) (leb (size s) cap)
+  capGives cap (Refused why) = both (eqb (numberOf why) 23) (eachReaching tb goal (exceeds cap))
 
   unfoldable pub isCapped : ℕ → Chosen → Bool
   isCapped cap r = both (wellFormed tb) (both (leb cap 24) (capGives cap r))
@@ -139,12 +43,12 @@ module _ (tb : Table) (goal : Goal) where
   module _ (cap : ℕ) (w : WellFormed tb) (fits : cap ≤ 24) where
     cap-by : (r : Chosen) → capGives cap r ≡ true → ChoiceIs tb goal cap r
     unfolding capGives exceeds
-    cap-by (Tests s) h = (w, fits, choice-by s (both-left (isChoice s) _ h), leb-true _ _ (both-right (isChoice s) _ h))
+    cap-by (Tests s) h = (w, fits, choice-by tb goal s (both-left (isChoice tb goal s) _ h), leb-true _ _ (both-right (isChoice tb goal s) _ h))
     cap-by (Refused why) h = inr (inr (
       eqb-true _ _ (both-left (eqb (numberOf why) 23) _ h),
       w,
       fits,
-      λ s t r. ltb-true _ _ (each-reaching (exceeds cap) (both-right (eqb (numberOf why) 23) _ h) s t r),
+      λ s t r. ltb-true _ _ (each-reaching tb goal (exceeds cap) (both-right (eqb (numberOf why) 23) _ h) s t r),
     ))
 
   pub capped-by : (cap : ℕ) (r : Chosen) → isCapped cap r ≡ true → ChoiceIs tb goal cap r
