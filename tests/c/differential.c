@@ -2,6 +2,7 @@
    implementation in reference.c. Each case reads one book; each tenth makes
    every other call too. With CASE only that one is run. */
 #include <inttypes.h>
+#include <signal.h>
 #include <stdio.h>
 #include <stdlib.h>
 #include <string.h>
@@ -700,6 +701,14 @@ static void print_numbers(bool demand)
     }
 }
 
+static void crashed(int number)
+{
+    printf("seed %" PRIu64 " case %" PRIu64 ": ended by signal %d\n", seed, case_number, number);
+    printf("%" PRIu64 " passed, %" PRIu64 " failed\n", passed, failed + 1);
+    fflush(stdout);
+    _Exit(1);
+}
+
 int main(int argc, char **argv)
 {
     uint64_t count;
@@ -708,6 +717,10 @@ int main(int argc, char **argv)
         fprintf(stderr, "usage: differential COUNT SEED [CASE]\n");
         return 2;
     }
+    signal(SIGSEGV, crashed);
+    signal(SIGBUS, crashed);
+    signal(SIGILL, crashed);
+    signal(SIGABRT, crashed);
     count = strtoull(argv[1], NULL, 10);
     seed = strtoull(argv[2], NULL, 10);
     if (argc == 4) {
