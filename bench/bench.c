@@ -140,7 +140,7 @@ static void line(const char *what, const char *name, measured ours, measured the
     }
     us = median(ours);
     them = median(theirs);
-    printf("| %s | %s | %.2f | %.2f | %.2f |\n", what, name, us, them, us / them);
+    printf("| %s | %s | %.2f | %.2f | %.2g |\n", what, name, us, them, us / them);
     fflush(stdout);
 }
 
