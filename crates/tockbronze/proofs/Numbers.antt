@@ -4,14 +4,18 @@ use mathlib.Core.Path.{_≡_, refl, sym}
 use Prim.Native.Nat.{ℕ, _*_, _/_, _%_, _≤_, _<_}
 use native.Mathlib.Omega.{arith}
 use borrow.Author.Tests.{eq-eqb, ne-eqb, lt-ltb, le-ltb}
-use Rattle.table.specs.Answers.{numberOf, chosenNumber, chosenSet}
+use mir.Syntax.{w64}
+use mir.Val.{Fits}
+use Rattle.table.specs.Answers.{numberOf, chosenNumber, chosenSet, writtenNumber, writtenCount}
 use Rattle.table.specs.Test.{Tested}
 use Rattle.table.specs.declared.Chosen.{Chosen}
 use Rattle.table.specs.declared.Chosen.the-variants.{Tests, Refused}
 use Rattle.table.specs.declared.Goal.the-variants.{Detect, Diagnose}
 use Rattle.table.specs.declared.Refusal.{Refusal}
 use Rattle.table.specs.declared.Table.{Table}
-use Rattle.tockbronze.specs.Packed.{packed, goalOf, unknownGoal, capOf}
+use Rattle.table.specs.declared.Written.{Written}
+use Rattle.tockbronze.specs.Packed.{packed, valueLimit, goalOf, unknownGoal, capOf}
+use Rattle.table.specs.declared.Written.the-variants as written
 
 -- no bit is lost: both parts come back
 module _ (number value : ℕ) (small : number < 256) where
@@ -24,7 +28,7 @@ module _ (number value : ℕ) (small : number < 256) where
   high-bits = omega arith
 
 -- and an answer fits the 64 bits
-pub packed-fits : (number value : ℕ) → number < 256 → value < 72057594037927936 → packed number value < 18446744073709551616
+pub packed-fits : (number value : ℕ) → number < 256 → value < valueLimit → packed number value < 18446744073709551616
 unfolding packed
 packed-fits number value h k = omega arith
 
@@ -37,6 +41,20 @@ tests-packed a s e = rw e (omega arith)
 pub refusal-packed : (a : Chosen) (why : Refusal) (n : ℕ) → a ≡ Refused why → n ≡ numberOf why → n ≡ packed (chosenNumber a) (chosenSet a)
 unfolding packed
 refusal-packed a why n e en = rw e (omega arith)
+
+-- ---- counts
+
+module _ (a : Written) (n : ℕ) (e : a ≡ written.Bytes n) where
+  pub count-fits : writtenCount a < valueLimit → Fits w64 (n * 256)
+  count-fits h = let k : n < valueLimit = rw e at h in record { fits = omega arith }
+
+  pub count-packed : n * 256 ≡ packed (writtenNumber a) (writtenCount a)
+  unfolding packed
+  count-packed = rw e (omega arith)
+
+pub unwritten-packed : (a : Written) (why : Refusal) (n : ℕ) → a ≡ written.Refused why → n ≡ numberOf why → n ≡ packed (writtenNumber a) (writtenCount a)
+unfolding packed
+unwritten-packed a why n e en = rw e (omega arith)
 
 -- ---- goals and caps
 

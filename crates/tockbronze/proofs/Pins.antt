@@ -4,13 +4,16 @@ use mathlib.Core.Logic.{inl, inr}
 use mathlib.Core.Path.{_≡_, sym, ap, _∙_}
 use Prim.Native.Nat.{ℕ}
 use native.Mathlib.Omega.{arith}
+use lib.ListN.{length}
 use Rattle.table.specs.Answers.{chosenNumber, chosenSet}
 use Rattle.table.specs.declared.Chosen.{Chosen}
 use Rattle.table.specs.declared.Goal.{Goal}
 use Rattle.table.specs.declared.Table.{Table}
 use Rattle.cover.proofs.Pins.{set-aside-pins, essential-pins}
+use Rattle.classes.proofs.Pins.{undetectable-pins}
 use Rattle.choice.proofs.Pins.{choose-pins}
-use Rattle.tockbronze.specs.Calls.{ForGoal, GivesAside, GivesEssential, GivesChoice, AsideCall, EssentialCall, ChooseCall}
+use Rattle.report.proofs.Pins.{text-one}
+use Rattle.tockbronze.specs.Calls.{ForGoal, GivesAside, GivesEssential, GivesChoice, AsideCall, EssentialCall, ChooseCall, CallWrites, CallCounts, ClassesCall, DictionaryCall, SheetCall, SuspectsCall, ReportCall, MarksWritten, UndetectableCall}
 use Rattle.tockbronze.specs.Flat.{lentTable}
 use Rattle.tockbronze.specs.Packed.{packed, goalOf}
 
@@ -33,3 +36,31 @@ module _ (bytes : List ℕ) (goal : ℕ) where
 
   pub tockbronze-choose-pins : (cap r₁ r₂ : ℕ) → ChooseCall bytes goal cap r₁ → ChooseCall bytes goal cap r₂ → r₁ ≡ r₂
   tockbronze-choose-pins cap = for-goal-pins (GivesChoice cap) (λ tb g. choose-pins tb g cap) bytes goal
+
+-- ---- the calls that write to a lent buffer: one number and one buffer
+
+call-pins : (earlier value : ℕ) (answer d : List ℕ) (r₁ r₂ : ℕ) (e₁ e₂ : List ℕ) → CallWrites earlier value answer d r₁ e₁ → CallWrites earlier value answer d r₂ e₂ → (r₁ ≡ r₂) × (e₁ ≡ e₂)
+call-pins earlier value answer d r₁ r₂ e₁ e₂ a b = (a .is ∙ sym (b .is), a .buffer ∙ sym (b .buffer))
+
+module _ (bytes d : List ℕ) (r₁ r₂ : ℕ) (e₁ e₂ : List ℕ) where
+  pub tockbronze-classes-pins : ClassesCall bytes d r₁ e₁ → ClassesCall bytes d r₂ e₂ → (r₁ ≡ r₂) × (e₁ ≡ e₂)
+  tockbronze-classes-pins = call-pins _ _ _ d r₁ r₂ e₁ e₂
+
+  pub tockbronze-dictionary-pins : (s : ℕ) → DictionaryCall bytes s d r₁ e₁ → DictionaryCall bytes s d r₂ e₂ → (r₁ ≡ r₂) × (e₁ ≡ e₂)
+  tockbronze-dictionary-pins s = call-pins _ _ _ d r₁ r₂ e₁ e₂
+
+  pub tockbronze-witness-sheet-pins : (s : ℕ) → SheetCall bytes s d r₁ e₁ → SheetCall bytes s d r₂ e₂ → (r₁ ≡ r₂) × (e₁ ≡ e₂)
+  tockbronze-witness-sheet-pins s = call-pins _ _ _ d r₁ r₂ e₁ e₂
+
+  pub tockbronze-suspects-pins : (s : ℕ) (seen : List ℕ) → SuspectsCall bytes s seen d r₁ e₁ → SuspectsCall bytes s seen d r₂ e₂ → (r₁ ≡ r₂) × (e₁ ≡ e₂)
+  tockbronze-suspects-pins s seen = call-pins _ _ _ d r₁ r₂ e₁ e₂
+
+pub tockbronze-report-pins : (book d : List ℕ) (r₁ r₂ : ℕ) (e₁ e₂ : List ℕ) → ReportCall book d r₁ e₁ → ReportCall book d r₂ e₂ → (r₁ ≡ r₂) × (e₁ ≡ e₂)
+tockbronze-report-pins book d r₁ r₂ e₁ e₂ a b =
+    let w : CallCounts 0 (b .text) d r₁ e₁ = rw (text-one book (a .text) (b .text) (a .is-text) (b .is-text)) at (a .writes) in
+    call-pins 0 (length (b .text)) (b .text) d r₁ r₂ e₁ e₂ w (b .writes)
+
+pub tockbronze-undetectable-pins : (bytes d : List ℕ) (r₁ r₂ : ℕ) (e₁ e₂ : List ℕ) → UndetectableCall bytes d r₁ e₁ → UndetectableCall bytes d r₂ e₂ → (r₁ ≡ r₂) × (e₁ ≡ e₂)
+tockbronze-undetectable-pins bytes d r₁ r₂ e₁ e₂ a b =
+    let w : MarksWritten (lentTable bytes) (b .answer) d r₁ e₁ = rw (undetectable-pins (lentTable bytes) (a .answer) (b .answer) (a .given) (b .given)) at (a .writes) in
+    call-pins _ _ _ d r₁ r₂ e₁ e₂ w (b .writes)

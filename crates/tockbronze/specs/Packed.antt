@@ -12,6 +12,10 @@ use Rattle.table.specs.declared.Table.{Table}
 unfoldable pub packed : ℕ → ℕ → ℕ
 packed number value = number + value * 256
 
+-- a value below 2 ^ 56 stands above the 8 bits
+abbrev pub valueLimit : ℕ
+valueLimit = 72057594037927936
+
 -- goal 0 is detect, 1 diagnose
 unfoldable pub goalOf : ℕ → Goal
 goalOf goal = pick (eqb goal 0) Detect Diagnose

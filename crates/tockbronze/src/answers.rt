@@ -1,11 +1,15 @@
 // Answers as one number, goals and caps as numbers.
 ghost use mathlib.Core.Path.{_≡_};
-ghost use Rattle.table.specs.Answers.{chosenNumber, chosenSet};
+ghost use Prim.Native.Nat.{_≤_, _<_};
+ghost use lib.ListN.{take};
+ghost use Rattle.table.specs.Answers.{chosenNumber, chosenSet, writtenNumber, writtenCount};
 ghost use Rattle.table.specs.Test.{wellFormed};
-ghost use Rattle.tockbronze.specs.Packed.{packed, goalOf, capOf, unknownGoal};
+ghost use Rattle.tockbronze.specs.Packed.{packed, valueLimit, goalOf, capOf, unknownGoal};
+ghost use Rattle.tockbronze.specs.Calls.{CallWrites};
 use table::Chosen;
 use table::Goal;
 use table::Table;
+use table::Written;
 
 // 99, after 20.
 pub fn unknown_goal(table: Table) -> u64
@@ -41,4 +45,26 @@ pub fn of_chosen(answer: Chosen) -> u64
         Chosen::Tests(set) => set as u64 * 256,
         Chosen::Refused(why) => table::number(why) as u64,
     }
+}
+
+pub fn of_written(answer: Written) -> u64
+    requires { ⌜ writtenCount answer < valueLimit ⌝ }
+    ensures { λ r. ⌜ r ≡ packed (writtenNumber answer) (writtenCount answer) ⌝ }
+{
+    match answer {
+        Written::Bytes(count) => count as u64 * 256,
+        Written::Refused(why) => table::number(why) as u64,
+    }
+}
+
+// The first n bytes over the front of the buffer, with a value.
+pub fn laid(bytes: [u8; 61], n: usize, value: usize, buf: &mut [u8]) -> u64
+    requires { ⌜ (n ≤ 61) × (value ≤ 61) ⌝ }
+    ensures { λ r. ⌜ CallWrites 0 value (take n bytes) (now (buf .entry)) r (now (buf .exit)) ⌝ }
+{
+    if buf.len() < n {
+        return 24;
+    }
+    text::inner::word(buf, 0, &bytes[..n]);
+    value as u64 * 256
 }
