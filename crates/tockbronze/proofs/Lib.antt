@@ -6,3 +6,4 @@ pub mod Pins
 pub mod Buffers
 pub mod Laid
 pub mod Marked
+pub mod Written

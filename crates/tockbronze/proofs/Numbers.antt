@@ -1,7 +1,7 @@
 -- Answers as one number, goals and caps as numbers. Assumes nothing.
 use mathlib.Core.Bool.{Bool, true, false}
 use mathlib.Core.Path.{_≡_, refl, sym}
-use Prim.Native.Nat.{ℕ, _*_, _/_, _%_, _≤_, _<_}
+use Prim.Native.Nat.{ℕ, _+_, _*_, _/_, _%_, _≤_, _<_}
 use native.Mathlib.Omega.{arith}
 use borrow.Author.Tests.{eq-eqb, ne-eqb, lt-ltb, le-ltb}
 use mir.Syntax.{w64}
@@ -81,3 +81,9 @@ cap-high cap h = rw (lt-ltb 24 cap h) refl
 pub cap-low : (cap : ℕ) → cap ≤ 24 → cap ≡ capOf cap
 unfolding capOf
 cap-low cap h = rw (le-ltb 24 cap h) refl
+
+-- ---- a refusal at a place
+
+pub place-packed : (why : Refusal) (n place : ℕ) → n ≡ numberOf why → n + place * 256 ≡ packed (numberOf why) place
+unfolding packed
+place-packed why n place e = rw e refl

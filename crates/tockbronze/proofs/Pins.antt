@@ -9,12 +9,15 @@ use Rattle.table.specs.Answers.{chosenNumber, chosenSet}
 use Rattle.table.specs.declared.Chosen.{Chosen}
 use Rattle.table.specs.declared.Goal.{Goal}
 use Rattle.table.specs.declared.Table.{Table}
+use Rattle.table.specs.declared.Verdict.{Verdict}
+use Rattle.table.specs.declared.Verdict.the-variants.{Accepted, Refused}
+use Rattle.book.specs.Reading.{readBook}
 use Rattle.cover.proofs.Pins.{set-aside-pins, essential-pins}
 use Rattle.classes.proofs.Pins.{undetectable-pins}
 use Rattle.choice.proofs.Pins.{choose-pins}
 use Rattle.report.proofs.Pins.{text-one}
-use Rattle.tockbronze.specs.Calls.{ForGoal, GivesAside, GivesEssential, GivesChoice, AsideCall, EssentialCall, ChooseCall, CallWrites, CallCounts, ClassesCall, DictionaryCall, SheetCall, SuspectsCall, ReportCall, MarksWritten, UndetectableCall}
-use Rattle.tockbronze.specs.Flat.{lentTable}
+use Rattle.tockbronze.specs.Calls.{ForGoal, GivesAside, GivesEssential, GivesChoice, AsideCall, EssentialCall, ChooseCall, CallWrites, CallCounts, ClassesCall, DictionaryCall, SheetCall, SuspectsCall, ReportCall, MarksWritten, UndetectableCall, ReadWritten, ReadCall}
+use Rattle.tockbronze.specs.Flat.{lentTable, bytesOf}
 use Rattle.tockbronze.specs.Packed.{packed, goalOf}
 
 -- where the library's own call leaves one answer, the call for a goal leaves one number
@@ -64,3 +67,10 @@ pub tockbronze-undetectable-pins : (bytes d : List ℕ) (r₁ r₂ : ℕ) (e₁ 
 tockbronze-undetectable-pins bytes d r₁ r₂ e₁ e₂ a b =
     let w : MarksWritten (lentTable bytes) (b .answer) d r₁ e₁ = rw (undetectable-pins (lentTable bytes) (a .answer) (b .answer) (a .given) (b .given)) at (a .writes) in
     call-pins _ _ _ d r₁ r₂ e₁ e₂ w (b .writes)
+
+pub tockbronze-read-pins : (book d : List ℕ) (r₁ r₂ : ℕ) (e₁ e₂ : List ℕ) → ReadCall book d r₁ e₁ → ReadCall book d r₂ e₂ → (r₁ ≡ r₂) × (e₁ ≡ e₂)
+tockbronze-read-pins book d r₁ r₂ e₁ e₂ = by (readBook book .verdict)
+  where
+    by : (v : Verdict) → ReadWritten v (readBook book .place) (readBook book .table) d r₁ e₁ → ReadWritten v (readBook book .place) (readBook book .table) d r₂ e₂ → (r₁ ≡ r₂) × (e₁ ≡ e₂)
+    by Accepted a b = call-pins 0 (readBook book .place) (bytesOf (readBook book .table)) d r₁ r₂ e₁ e₂ a b
+    by (Refused why) (p, q) (p', q') = (p ∙ sym p', q ∙ sym q')

@@ -8,7 +8,7 @@ use lib.ListN.{length, take}
 use Rattle.folds.specs.Fold.{listed, onto, total}
 use Rattle.sets.specs.Sets.{bit}
 use Rattle.lent.specs.Lent.{accept, setNumber, roomNumber}
-use Rattle.table.specs.Answers.{verdictNumber, chosenNumber, chosenSet, faultsNumber, faultsSet}
+use Rattle.table.specs.Answers.{numberOf, verdictNumber, chosenNumber, chosenSet, faultsNumber, faultsSet}
 use Rattle.table.specs.Table.{columns}
 use Rattle.table.specs.declared.Chosen.{Chosen}
 use Rattle.table.specs.declared.Classes.{Classes}
@@ -18,6 +18,9 @@ use Rattle.table.specs.declared.Table.{Table}
 use Rattle.terms.specs.Terms.{Essential}
 use Rattle.cover.specs.Answer.{Gives, AsideTest}
 use Rattle.choice.specs.Answer.{ChoiceIs}
+use Rattle.book.specs.Reading.{readBook}
+use Rattle.table.specs.declared.Verdict.{Verdict}
+use Rattle.table.specs.declared.Verdict.the-variants.{Accepted, Refused}
 use Rattle.classes.specs.Classes.{classesOf}
 use Rattle.classes.specs.Undetectable.{UndetectableIn}
 use Rattle.table.specs.declared.Faults.{Faults}
@@ -25,7 +28,7 @@ use Rattle.suspects.specs.Suspects.{suspectsOf}
 use Rattle.dictionary.specs.Dictionary.{dictionaryOf}
 use Rattle.witness.specs.Witness.{sheetOf}
 use Rattle.report.specs.Answer.{IsText}
-use Rattle.tockbronze.specs.Flat.{lentTable}
+use Rattle.tockbronze.specs.Flat.{lentTable, bytesOf}
 use Rattle.tockbronze.specs.Packed.{packed, goalOf, unknownGoal}
 
 -- r is the answer that the library's own call gives, as one number
@@ -108,3 +111,14 @@ pub record UndetectableCall (bytes entry : List ℕ) (r : ℕ) (exit : List ℕ)
   pub answer : Faults
   pub given : UndetectableIn (lentTable bytes) answer
   pub writes : MarksWritten (lentTable bytes) answer entry r exit
+
+-- ---- reading
+
+-- the bytes of an accepted book's table, with the place; of a refused book the number and the place, and the buffer stays
+abbrev pub ReadWritten : Verdict → ℕ → Table → List ℕ → ℕ → List ℕ → Type 0
+ReadWritten Accepted place tb entry r exit = CallWrites 0 place (bytesOf tb) entry r exit
+ReadWritten (Refused why) place tb entry r exit = (r ≡ packed (numberOf why) place) × (exit ≡ entry)
+
+abbrev pub ReadCall : List ℕ → List ℕ → ℕ → List ℕ → Type 0
+ReadCall book entry r exit =
+    ReadWritten (readBook book .verdict) (readBook book .place) (readBook book .table) entry r exit

@@ -1,7 +1,7 @@
 -- A table lent as 1,586 bytes: the number of tests, the number of faults, 1,464 cells row by row of 61, 60 lines, 60 stuck
 -- values. This layout is the crate's own: the cells go through `placeOf`, wherever the table has them.
 -- Assumes nothing.
-use mathlib.Core.List.{List, _∷_, _++_}
+use mathlib.Core.List.{List, [], _∷_, _++_}
 use Prim.Native.Nat.{ℕ, zero, suc, _+_, _/_, _%_}
 use lib.Dec.{eqb}
 use lib.ListN.{length, getD, set, replicate}
@@ -35,9 +35,14 @@ noTable =
 unfoldable pub lentTable : List ℕ → Table
 lentTable bytes = pick (eqb (length bytes) 1586) (tableOf bytes) noTable
 
--- the output of the cell k
-unfoldable pub cellOf : Table → ℕ → ℕ
-cellOf tb k = outputAt tb (k / 61) (k % 61)
+-- cell k, where `out` gives the output of a test in a column
+unfoldable pub cellOf : (ℕ → ℕ → ℕ) → ℕ → ℕ
+cellOf out k = out (k / 61) (k % 61)
 
+unfoldable pub labelOf : List ℕ → ℕ → ℕ
+labelOf labels f = getD labels f 0
+
+-- the bytes of a table
 unfoldable pub bytesOf : Table → List ℕ
-bytesOf tb = tb .tests ∷ tb .faults ∷ (listed (cellOf tb) 1464 ++ (tb .lines ++ tb .stuck))
+bytesOf tb =
+    (tb .tests ∷ []) ++ ((tb .faults ∷ []) ++ (listed (cellOf (outputAt tb)) 1464 ++ (listed (labelOf (tb .lines)) 60 ++ listed (labelOf (tb .stuck)) 60)))

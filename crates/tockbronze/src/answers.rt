@@ -2,12 +2,13 @@
 ghost use mathlib.Core.Path.{_≡_};
 ghost use Prim.Native.Nat.{_≤_, _<_};
 ghost use lib.ListN.{take};
-ghost use Rattle.table.specs.Answers.{chosenNumber, chosenSet, writtenNumber, writtenCount};
+ghost use Rattle.table.specs.Answers.{numberOf, chosenNumber, chosenSet, writtenNumber, writtenCount};
 ghost use Rattle.table.specs.Test.{wellFormed};
 ghost use Rattle.tockbronze.specs.Packed.{packed, valueLimit, goalOf, capOf, unknownGoal};
 ghost use Rattle.tockbronze.specs.Calls.{CallWrites};
 use table::Chosen;
 use table::Goal;
+use table::Refusal;
 use table::Table;
 use table::Written;
 
@@ -67,4 +68,12 @@ pub fn laid(bytes: [u8; 61], n: usize, value: usize, buf: &mut [u8]) -> u64
     }
     text::inner::word(buf, 0, &bytes[..n]);
     value as u64 * 256
+}
+
+// The number of a refusal, with the place.
+pub fn at_place(why: Refusal, place: usize) -> u64
+    requires { ⌜ place ≤ 5991 ⌝ }
+    ensures { λ r. ⌜ r ≡ packed (numberOf why) place ⌝ }
+{
+    table::number(why) as u64 + place as u64 * 256
 }

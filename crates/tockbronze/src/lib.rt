@@ -1,9 +1,10 @@
 // The calls for programs in other languages, on numbers and bytes. A table is lent as 1,586 bytes; an answer is one number, the
 // refusal in its low 8 bits and the value above them.
-ghost use Rattle.tockbronze.specs.Calls.{AsideCall, EssentialCall, ChooseCall, DictionaryCall, SheetCall, ReportCall, ClassesCall, SuspectsCall, UndetectableCall};
+ghost use Rattle.tockbronze.specs.Calls.{AsideCall, EssentialCall, ChooseCall, DictionaryCall, SheetCall, ReportCall, ClassesCall, SuspectsCall, UndetectableCall, ReadCall};
 use table::Verdict;
 
 mod answers;
+mod bytes;
 mod flat;
 mod marks;
 
@@ -111,4 +112,19 @@ pub extern "C" fn tockbronze_undetectable(table: &[u8], faults: &mut [u8]) -> u6
         return 20;
     }
     marks::marked(classes::undetectable(given), given.faults, faults)
+}
+
+// Reads the book, and writes the bytes of its table.
+#[no_mangle]
+pub extern "C" fn tockbronze_read(book: &[u8], table: &mut [u8]) -> u64
+    ensures { λ r. ⌜ ReadCall (now (book .entry)) (now (table .entry)) r (now (table .exit)) ⌝ }
+{
+    let reading = book::read_book(book);
+    let verdict = reading.verdict;
+    let given = reading.table;
+    let place = reading.place;
+    match verdict {
+        Verdict::Accepted => bytes::written(given, place, table),
+        Verdict::Refused(why) => answers::at_place(why, place),
+    }
 }
