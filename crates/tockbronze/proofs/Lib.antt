@@ -7,3 +7,4 @@ pub mod Buffers
 pub mod Laid
 pub mod Marked
 pub mod Written
+pub mod Round
