@@ -6,13 +6,13 @@ use native.Mathlib.Omega.{arith}
 use lib.ListN.{length}
 use Rattle.table.specs.declared.Refusal.{Refusal}
 use Rattle.table.proofs.Empty.{empty-formed}
-use Rattle.book.specs.declared.Outcome.the-variants.{Given, Accepted, Refused}
-use Rattle.book.specs.declared.Record.{Record}
-use Rattle.book.specs.declared.SoFar.{SoFar}
-use Rattle.book.specs.declared.Stepped.{Stepped}
-use Rattle.book.specs.Step.{start, CountsFit, stepAt}
+use Rattle.records.specs.declared.Outcome.the-variants.{Given, Accepted, Refused}
+use Rattle.records.specs.declared.Record.{Record}
+use Rattle.records.specs.declared.SoFar.{SoFar}
+use Rattle.records.specs.declared.Stepped.{Stepped}
+use Rattle.records.specs.Step.{start, CountsFit, stepAt}
 use Rattle.book.specs.Reading.{readingOf, after, readFrom, readBook}
-use Rattle.book.proofs.Steps.{steps, Goes, goes}
+use Rattle.records.proofs.Steps.{steps, Goes, goes}
 use Rattle.table.specs.declared.Verdict.the-variants as verdict
 
 -- reading on from a place, with steps enough, gives the reading of the book

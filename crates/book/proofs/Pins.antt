@@ -3,9 +3,9 @@ use mathlib.Core.List.{List}
 use mathlib.Core.Path.{_≡_, sym, _∙_}
 use Prim.Native.Nat.{ℕ}
 use Rattle.table.specs.declared.Reading.{Reading}
-use Rattle.book.specs.declared.SoFar.{SoFar}
-use Rattle.book.specs.declared.Stepped.{Stepped}
-use Rattle.book.specs.Step.{start}
+use Rattle.records.specs.declared.SoFar.{SoFar}
+use Rattle.records.specs.declared.Stepped.{Stepped}
+use Rattle.records.specs.Step.{start}
 use Rattle.book.specs.Reading.{readBook}
 use Rattle.book.specs.Sound.{recordAt}
 

@@ -9,10 +9,10 @@ use Rattle.table.specs.declared.Table.{Table}
 use Rattle.table.specs.Table.{outputAt}
 use Rattle.table.specs.Test.{Tested}
 use Rattle.table.proofs.Formed.{formed, accepted, rejected}
-use Rattle.book.specs.declared.SoFar.{SoFar}
-use Rattle.book.specs.declared.Stage.{Stage}
-use Rattle.book.specs.declared.Stage.the-variants.{Tests, Faults, Responses}
-use Rattle.book.specs.Step.{CountsFit}
+use Rattle.records.specs.declared.SoFar.{SoFar}
+use Rattle.records.specs.declared.Stage.{Stage}
+use Rattle.records.specs.declared.Stage.the-variants.{Tests, Faults, Responses}
+use Rattle.records.specs.Step.{CountsFit}
 use Rattle.book.specs.Sound.{orderOf, correctFrom, stageFits, soundTest}
 
 module _ (stage : Stage) (tb : Table) where

@@ -7,8 +7,8 @@ use lib.Dec.{eqb}
 use Rattle.folds.specs.Fold.{joined, always}
 use Rattle.table.specs.Table.{outputAt, lineOf, stuckOf}
 use Rattle.table.specs.declared.Table.{Table}
-use Rattle.book.specs.declared.Record.the-variants.{Test, Fault, Response, End}
-use Rattle.book.specs.Step.{recordBytes}
+use Rattle.records.specs.declared.Record.the-variants.{Test, Fault, Response, End}
+use Rattle.records.specs.Step.{recordBytes}
 
 module _ (tb : Table) where
   unfoldable pub testBytes : ℕ → List ℕ

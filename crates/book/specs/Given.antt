@@ -4,10 +4,10 @@ use mathlib.Core.List.{List}
 use mathlib.Core.Path.{_≡_}
 use Prim.Native.Nat.{ℕ, _<_}
 use lib.ListN.{getD}
-use Rattle.book.specs.declared.Outcome.the-variants.{Given}
-use Rattle.book.specs.declared.Record.{Record}
-use Rattle.book.specs.declared.SoFar.{SoFar}
-use Rattle.book.specs.Step.{start, stepAt}
+use Rattle.records.specs.declared.Outcome.the-variants.{Given}
+use Rattle.records.specs.declared.Record.{Record}
+use Rattle.records.specs.declared.SoFar.{SoFar}
+use Rattle.records.specs.Step.{start, stepAt}
 
 -- each is a byte
 abbrev pub Bytes : List ℕ → Type 0

@@ -1,5 +1,3 @@
-pub mod Grow
-pub mod Step
 pub mod Reading
 pub mod Sound
 pub mod Given

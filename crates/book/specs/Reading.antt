@@ -8,11 +8,11 @@ use Rattle.table.specs.declared.Reading.{Reading}
 use Rattle.table.specs.declared.Refusal.the-variants.{NoEnd}
 use Rattle.table.specs.declared.Verdict.{Verdict}
 use Rattle.table.specs.declared.Verdict.the-variants.{Accepted, Refused}
-use Rattle.book.specs.declared.Outcome.{Outcome}
-use Rattle.book.specs.declared.Outcome.the-variants as outcome
-use Rattle.book.specs.declared.SoFar.{SoFar}
-use Rattle.book.specs.declared.Stepped.{Stepped}
-use Rattle.book.specs.Step.{start, stepAt}
+use Rattle.records.specs.declared.Outcome.{Outcome}
+use Rattle.records.specs.declared.Outcome.the-variants as outcome
+use Rattle.records.specs.declared.SoFar.{SoFar}
+use Rattle.records.specs.declared.Stepped.{Stepped}
+use Rattle.records.specs.Step.{start, stepAt}
 
 abbrev pub readingOf : Verdict → Stepped → Reading
 readingOf verdict s = record { verdict = verdict; place = s .place; table = s .sofar .table }

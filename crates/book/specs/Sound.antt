@@ -10,11 +10,11 @@ use Rattle.table.specs.Table.{cellAt, outputAt}
 use Rattle.table.specs.Test.{wellFormed}
 use Rattle.table.specs.declared.Refusal.the-variants.{NotWellFormed}
 use Rattle.table.specs.declared.Table.{Table}
-use Rattle.book.specs.declared.SoFar.{SoFar}
-use Rattle.book.specs.declared.Stage.{Stage}
-use Rattle.book.specs.declared.Stage.the-variants.{Tests, Faults, Responses, Ended}
-use Rattle.book.specs.declared.Stepped.{Stepped}
-use Rattle.book.specs.Step.{Rule, check, rule, judged, ruleAt}
+use Rattle.records.specs.declared.SoFar.{SoFar}
+use Rattle.records.specs.declared.Stage.{Stage}
+use Rattle.records.specs.declared.Stage.the-variants.{Tests, Faults, Responses, Ended}
+use Rattle.records.specs.declared.Stepped.{Stepped}
+use Rattle.records.specs.Step.{Rule, check, rule, judged, ruleAt}
 
 -- where the response of fault f to test t stands among all
 abbrev pub orderOf : ℕ → ℕ → ℕ

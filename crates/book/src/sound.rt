@@ -2,8 +2,8 @@
 ghost use mathlib.Core.Path.{_≡_};
 ghost use Prim.Native.Nat.{_≤_, _<_};
 ghost use Rattle.book.specs.Sound.{correctAt, faultCorrect, correctFrom, stageFits, soundTest};
-use crate::SoFar;
-use crate::Stage;
+use records::SoFar;
+use records::Stage;
 use table::Table;
 
 // Whether the response of fault f to test t is before the first one asked for, or the correct output.

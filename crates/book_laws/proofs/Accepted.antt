@@ -13,10 +13,10 @@ use Rattle.table.specs.declared.Verdict.the-variants.{Accepted}
 use Rattle.book.specs.BookOf.{bookOf}
 use Rattle.book.specs.Given.{Bytes, Reached}
 use Rattle.book.specs.Reading.{readBook}
-use Rattle.book.specs.Step.{recordBytes, rankOf, acceptedAt, firstOf, edgeRule, ruleAt, stepAt}
-use Rattle.book.specs.declared.Record.the-variants.{End}
-use Rattle.book.specs.declared.Stage.{Stage}
-use Rattle.book.specs.declared.Stage.the-variants.{Ended}
+use Rattle.records.specs.Step.{recordBytes, rankOf, acceptedAt, firstOf, edgeRule, ruleAt, stepAt}
+use Rattle.records.specs.declared.Record.the-variants.{End}
+use Rattle.records.specs.declared.Stage.{Stage}
+use Rattle.records.specs.declared.Stage.the-variants.{Ended}
 use Rattle.book_laws.specs.Accepts.{Accepts}
 use Rattle.book_laws.proofs.Along.{so, Along, go-on, end-step}
 use Rattle.book_laws.proofs.Good.{ended, reached-good}

@@ -13,13 +13,13 @@ use Rattle.folds.specs.Fold.{every}
 use Rattle.table.specs.Table.{outputAt}
 use Rattle.table.specs.declared.Table.{Table}
 use Rattle.book.specs.Given.{Reached, read}
-use Rattle.book.specs.Grow.{withTest, withFault, withResponse, differs}
-use Rattle.book.specs.Step.{recordBytes, givenAt, rankOf, notAfter, firstOf, testRule, faultRule, responseRule, endRule, kindRule, ruleAt, stepAt}
-use Rattle.book.specs.declared.Record.{Record}
-use Rattle.book.specs.declared.Record.the-variants.{Test, Fault, Response, End}
-use Rattle.book.specs.declared.SoFar.{SoFar}
-use Rattle.book.specs.declared.Stage.{Stage}
-use Rattle.book.specs.declared.Stage.the-variants.{Tests, Faults, Responses, Ended}
+use Rattle.grow.specs.Grow.{withTest, withFault, withResponse, differs}
+use Rattle.records.specs.Step.{recordBytes, givenAt, rankOf, notAfter, firstOf, testRule, faultRule, responseRule, endRule, kindRule, ruleAt, stepAt}
+use Rattle.records.specs.declared.Record.{Record}
+use Rattle.records.specs.declared.Record.the-variants.{Test, Fault, Response, End}
+use Rattle.records.specs.declared.SoFar.{SoFar}
+use Rattle.records.specs.declared.Stage.{Stage}
+use Rattle.records.specs.declared.Stage.the-variants.{Tests, Faults, Responses, Ended}
 
 abbrev pub so : Table → Stage → SoFar
 so tb stage = record { table = tb; stage = stage }

@@ -1,5 +1,5 @@
 -- The bytes of a table's book before its end record, and what each record adds to them. Assumes nothing.
-use mathlib.Core.Bool.{true, false, not}
+use mathlib.Core.Bool.{true, false}
 use mathlib.Core.List.{List, [], _++_, append-nil, append-assoc}
 use mathlib.Core.Logic.{inr}
 use mathlib.Core.Path.{_≡_, refl, sym, ap, ap₂, _∙_}
@@ -16,10 +16,10 @@ use Rattle.table.specs.WellFormed.{WellFormed}
 use Rattle.table.specs.declared.Table.{Table}
 use Rattle.table.proofs.Stored.{cell-here, cell-there}
 use Rattle.book.specs.BookOf.{testBytes, faultBytes, responseBytes, answersWrong, responsesOf, bookOf}
-use Rattle.book.specs.Grow.{withTest, withFault, withResponse}
+use Rattle.grow.specs.Grow.{withTest, withFault, withResponse}
 use Rattle.book.specs.Sound.{orderOf}
-use Rattle.book.specs.Step.{recordBytes}
-use Rattle.book.specs.declared.Record.the-variants.{Test, Fault, Response, End}
+use Rattle.records.specs.Step.{recordBytes}
+use Rattle.records.specs.declared.Record.the-variants.{Test, Fault, Response, End}
 use Rattle.book_laws.proofs.Grown.{Long, filled-there}
 use Rattle.book_laws.proofs.Stages.{Correct}
 

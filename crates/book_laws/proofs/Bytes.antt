@@ -8,8 +8,8 @@ use Rattle.table.specs.WellFormed.{WellFormed, OfType}
 use Rattle.table.specs.declared.Table.{Table}
 use Rattle.table.proofs.Stored.{cell-byte}
 use Rattle.book.specs.BookOf.{testBytes, faultBytes, responseBytes, answersWrong, responsesOf, bookOf}
-use Rattle.book.specs.Step.{recordBytes}
-use Rattle.book.specs.declared.Record.the-variants.{End}
+use Rattle.records.specs.Step.{recordBytes}
+use Rattle.records.specs.declared.Record.the-variants.{End}
 use Rattle.book.specs.Given.{Bytes}
 
 abbrev pub byte : ℕ → Type 0

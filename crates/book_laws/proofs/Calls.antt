@@ -15,12 +15,12 @@ use Rattle.table.specs.declared.Refusal.the-variants.{NotWellFormed}
 use Rattle.book.specs.Given.{Reached, begun, read, SomeStart}
 use Rattle.book.specs.Reading.{after, readFrom, readBook}
 use Rattle.book.specs.Sound.{soundTest, callRule, recordAt}
-use Rattle.book.specs.Step.{start, refusedAt, firstOf, stepAt}
-use Rattle.book.specs.declared.Outcome.the-variants.{Given, Refused}
-use Rattle.book.specs.declared.Record.{Record}
-use Rattle.book.specs.declared.SoFar.{SoFar}
-use Rattle.book.specs.declared.Stepped.{Stepped}
-use Rattle.book.proofs.Steps.{Steps, refuses, accepts, gives, steps}
+use Rattle.records.specs.Step.{start, refusedAt, firstOf, stepAt}
+use Rattle.records.specs.declared.Outcome.the-variants.{Given, Refused}
+use Rattle.records.specs.declared.Record.{Record}
+use Rattle.records.specs.declared.SoFar.{SoFar}
+use Rattle.records.specs.declared.Stepped.{Stepped}
+use Rattle.records.proofs.Steps.{Steps, refuses, accepts, gives, steps}
 use Rattle.book_laws.specs.Calls.{callsFrom}
 use Rattle.book_laws.specs.Records.{BytesAt}
 use Rattle.book_laws.specs.Refuses.{Refuses}

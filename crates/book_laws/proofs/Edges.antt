@@ -12,8 +12,8 @@ use Rattle.folds.proofs.Bools.{clash}
 use Rattle.table.specs.declared.Refusal.the-variants.{NoEnd, BytesFollow}
 use Rattle.table.specs.declared.Verdict.the-variants.{Refused}
 use Rattle.book.specs.Reading.{readBook}
-use Rattle.book.specs.Step.{rankOf, edgeRule}
-use Rattle.book.specs.declared.SoFar.{SoFar}
+use Rattle.records.specs.Step.{rankOf, edgeRule}
+use Rattle.records.specs.declared.SoFar.{SoFar}
 use Rattle.book_laws.specs.Refuses.{StopsAt, AfterEnd}
 use Rattle.book_laws.proofs.Good.{ended, reached-good}
 use Rattle.book_laws.proofs.Numbers.{EdgeOr, edge-or, reading-stops}

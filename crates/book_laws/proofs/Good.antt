@@ -19,16 +19,16 @@ use Rattle.table.proofs.Stored.{cell-here, cell-there}
 use Rattle.table.proofs.Empty.{empty-formed, empty-typed}
 use Rattle.book.specs.BookOf.{testBytes, faultBytes, responsesOf, bookOf}
 use Rattle.book.specs.Given.{Bytes, Reached, begun, read}
-use Rattle.book.specs.Grow.{withFault, withResponse}
+use Rattle.grow.specs.Grow.{withFault, withResponse}
 use Rattle.book.specs.Sound.{orderOf}
-use Rattle.book.specs.Step.{start, recordBytes, rankOf, testRule, faultRule, responseRule, endRule}
-use Rattle.book.specs.declared.Outcome.the-variants.{Given}
-use Rattle.book.specs.declared.Record.{Record}
-use Rattle.book.specs.declared.SoFar.{SoFar}
-use Rattle.book.specs.declared.Stage.{Stage}
-use Rattle.book.specs.declared.Stage.the-variants.{Tests, Faults, Responses, Ended}
-use Rattle.book.specs.declared.Stepped.{Stepped}
-use Rattle.book.proofs.Steps.{Gives, test, fault, response, ending, Steps, refuses, accepts, gives, steps}
+use Rattle.records.specs.Step.{start, recordBytes, rankOf, testRule, faultRule, responseRule, endRule}
+use Rattle.records.specs.declared.Outcome.the-variants.{Given}
+use Rattle.records.specs.declared.Record.{Record}
+use Rattle.records.specs.declared.SoFar.{SoFar}
+use Rattle.records.specs.declared.Stage.{Stage}
+use Rattle.records.specs.declared.Stage.the-variants.{Tests, Faults, Responses, Ended}
+use Rattle.records.specs.declared.Stepped.{Stepped}
+use Rattle.records.proofs.Steps.{Gives, test, fault, response, ending, Steps, refuses, accepts, gives, steps}
 use Rattle.book_laws.proofs.Grown.{Long, long-of, filled-here, filled-there, test-formed, fault-formed, response-formed, test-long, fault-long, response-long, test-typed, fault-typed, response-typed}
 use Rattle.book_laws.proofs.Stages.{Correct, Fits, no-fault, no-response, correct-on}
 use Rattle.book_laws.proofs.Body.{testsOf, faultsOf, wrongOf, bodyOf, book-body, body-most, body-test, body-fault, body-response}

@@ -16,7 +16,7 @@ use Rattle.table.specs.Table.{placeOf, cellAt}
 use Rattle.table.specs.WellFormed.{WellFormed, OfType}
 use Rattle.table.specs.declared.Table.{Table}
 use Rattle.table.proofs.Stored.{cell-here, cell-there, stored, stored-byte, cell-byte}
-use Rattle.book.specs.Grow.{withTest, filled, withFault, withResponse, differs}
+use Rattle.grow.specs.Grow.{withTest, filled, withFault, withResponse, differs}
 
 -- the arrays' lengths
 pub record Long (tb : Table) : Type 0 where

@@ -17,12 +17,12 @@ use Rattle.table.specs.declared.Refusal.{Refusal}
 use Rattle.book.specs.Reading.{readBook}
 use Rattle.book.specs.Sound.{callRule, recordAt}
 use Rattle.table.specs.Table.{emptyTable}
-use Rattle.book.specs.Step.{Check, Rule, rankOf, refusedAt, firstOf, testRule, faultRule, responseRule, endRule, unknownRule, edgeRule, kindRule, ruleAt, stepAt}
-use Rattle.book.specs.declared.Outcome.the-variants.{Given, Refused}
-use Rattle.book.specs.declared.Record.{Record}
-use Rattle.book.specs.declared.SoFar.{SoFar}
-use Rattle.book.specs.declared.Stepped.{Stepped}
-use Rattle.book.proofs.Steps.{AllPast, way}
+use Rattle.records.specs.Step.{Check, Rule, rankOf, refusedAt, firstOf, testRule, faultRule, responseRule, endRule, unknownRule, edgeRule, kindRule, ruleAt, stepAt}
+use Rattle.records.specs.declared.Outcome.the-variants.{Given, Refused}
+use Rattle.records.specs.declared.Record.{Record}
+use Rattle.records.specs.declared.SoFar.{SoFar}
+use Rattle.records.specs.declared.Stepped.{Stepped}
+use Rattle.records.proofs.Steps.{AllPast, way}
 use Rattle.book_laws.specs.Refuses.{Refuses, StopsAt}
 use Rattle.book_laws.proofs.Readings.{Ends, refused, accepted, ends, refused-reading}
 use Rattle.table.specs.declared.Verdict.the-variants as verdict

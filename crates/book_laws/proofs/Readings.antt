@@ -11,13 +11,13 @@ use Rattle.table.specs.declared.Refusal.{Refusal}
 use Rattle.table.specs.declared.Verdict.the-variants.{Accepted, Refused}
 use Rattle.book.specs.Given.{Reached, begun, read}
 use Rattle.book.specs.Reading.{readingOf, readBook}
-use Rattle.book.specs.Step.{start, rankOf, refusedAt, acceptedAt, stepAt}
-use Rattle.book.specs.declared.SoFar.{SoFar}
-use Rattle.book.specs.declared.Stepped.{Stepped}
+use Rattle.records.specs.Step.{start, rankOf, refusedAt, acceptedAt, stepAt}
+use Rattle.records.specs.declared.SoFar.{SoFar}
+use Rattle.records.specs.declared.Stepped.{Stepped}
 use Rattle.book.proofs.Loop.{Reads, begins, accepts-all, refuses-all, onwards}
-use Rattle.book.proofs.Steps.{Steps, refuses, accepts, gives, steps, goes}
+use Rattle.records.proofs.Steps.{Steps, refuses, accepts, gives, steps, goes}
 use Rattle.book_laws.proofs.Records.{recordOf, given-record}
-use Rattle.book.specs.declared.Outcome.the-variants as outcome
+use Rattle.records.specs.declared.Outcome.the-variants as outcome
 
 -- where a book's start has led, the rest of the reading is that of the book
 reads-on : {book : List ℕ} {place : ℕ} {sofar : SoFar} → Reached book place sofar → Reads book place sofar

@@ -7,14 +7,14 @@ use native.Mathlib.Omega.{arith}
 use borrow.Author.Tests.{ltb-false}
 use lib.ListN.{length, getD, take, drop}
 use lib.Seq.{drop-cons, take-add}
-use Rattle.book.specs.Step.{recordBytes, testRule, faultRule, responseRule, endRule, stepAt}
-use Rattle.book.specs.declared.Outcome.the-variants.{Given}
-use Rattle.book.specs.declared.Record.{Record}
-use Rattle.book.specs.declared.Record.the-variants.{Test, Fault, Response, End}
-use Rattle.book.specs.declared.SoFar.{SoFar}
-use Rattle.book.specs.declared.Stepped.{Stepped}
+use Rattle.records.specs.Step.{recordBytes, testRule, faultRule, responseRule, endRule, stepAt}
+use Rattle.records.specs.declared.Outcome.the-variants.{Given}
+use Rattle.records.specs.declared.Record.{Record}
+use Rattle.records.specs.declared.Record.the-variants.{Test, Fault, Response, End}
+use Rattle.records.specs.declared.SoFar.{SoFar}
+use Rattle.records.specs.declared.Stepped.{Stepped}
 use Rattle.book_laws.specs.Records.{BytesAt}
-use Rattle.book.proofs.Steps.{Gives, test, fault, response, ending, Steps, refuses, accepts, gives, steps}
+use Rattle.records.proofs.Steps.{Gives, test, fault, response, ending, Steps, refuses, accepts, gives, steps}
 
 -- the bytes from a place on, one by one
 pub cons-at : (book : List ℕ) (place : ℕ) → place < length book → drop place book ≡ getD book place 0 ∷ drop (place + 1) book

@@ -21,12 +21,12 @@ use Rattle.table.specs.declared.Table.{Table}
 use Rattle.table.proofs.Stored.{cell-here, cell-there, cells-same}
 use Rattle.book.specs.BookOf.{testBytes, faultBytes, responseBytes, answersWrong, responsesOf, bookOf}
 use Rattle.book.specs.Given.{begun}
-use Rattle.book.specs.Grow.{withTest, withFault, withResponse, differs}
+use Rattle.grow.specs.Grow.{withTest, withFault, withResponse, differs}
 use Rattle.book.specs.Sound.{orderOf}
-use Rattle.book.specs.Step.{recordBytes, rankOf, notAfter}
-use Rattle.book.specs.declared.Record.the-variants.{Test, Fault, Response, End}
-use Rattle.book.specs.declared.Stage.{Stage}
-use Rattle.book.specs.declared.Stage.the-variants.{Tests, Faults, Responses, Ended}
+use Rattle.records.specs.Step.{recordBytes, rankOf, notAfter}
+use Rattle.records.specs.declared.Record.the-variants.{Test, Fault, Response, End}
+use Rattle.records.specs.declared.Stage.{Stage}
+use Rattle.records.specs.declared.Stage.the-variants.{Tests, Faults, Responses, Ended}
 use Rattle.book_laws.proofs.Along.{Along, along, go-on, test-step, fault-step, response-step}
 use Rattle.book_laws.proofs.Good.{reached-good}
 use Rattle.book_laws.proofs.Grown.{Long, filled-here, filled-there, label-new}

@@ -14,8 +14,8 @@ use Rattle.folds.proofs.Below.{lt-or-ge}
 use Rattle.table.specs.declared.Reading.{Reading}
 use Rattle.book.specs.Given.{Reached, begun, read}
 use Rattle.book.specs.Reading.{readBook}
-use Rattle.book.specs.Step.{rankOf, judged, testRule, faultRule, responseRule, endRule, unknownRule, edgeRule, kindRule, ruleAt, stepAt}
-use Rattle.book.specs.declared.SoFar.{SoFar}
+use Rattle.records.specs.Step.{rankOf, testRule, faultRule, responseRule, endRule, unknownRule, edgeRule, kindRule, ruleAt, stepAt}
+use Rattle.records.specs.declared.SoFar.{SoFar}
 use Rattle.book_laws.proofs.Good.{Good, reached-good, open-place, any-place}
 use Rattle.book_laws.proofs.Readings.{Ends, refused, accepted, ends, refused-reading, accepted-reading}
 

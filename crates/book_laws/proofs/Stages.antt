@@ -13,9 +13,9 @@ use Rattle.folds.proofs.Every.{every-at, every-of}
 use Rattle.table.specs.Table.{outputAt}
 use Rattle.table.specs.declared.Table.{Table}
 use Rattle.book.specs.Sound.{orderOf, correctAt, faultCorrect, correctFrom, stageFits}
-use Rattle.book.specs.Step.{rankOf, notAfter}
-use Rattle.book.specs.declared.Stage.{Stage}
-use Rattle.book.specs.declared.Stage.the-variants.{Tests, Faults, Responses, Ended}
+use Rattle.records.specs.Step.{rankOf, notAfter}
+use Rattle.records.specs.declared.Stage.{Stage}
+use Rattle.records.specs.declared.Stage.the-variants.{Tests, Faults, Responses, Ended}
 
 -- the responses from a first one on are the correct outputs
 abbrev pub Correct : Table → ℕ → Type 0

@@ -12,11 +12,10 @@ use Rattle.table.proofs.Formed.{formed, tested}
 use Rattle.book.specs.BookOf.{bookOf}
 use Rattle.book.specs.Given.{Reached, SomeStart}
 use Rattle.book.specs.Sound.{soundTest}
-use Rattle.book.specs.Step.{start, rankOf}
-use Rattle.book.specs.declared.SoFar.{SoFar}
-use Rattle.book.specs.declared.Stage.{Stage}
-use Rattle.book.specs.declared.Stage.the-variants.{Tests, Faults, Responses, Ended}
-use Rattle.book.proofs.Steps.{gives}
+use Rattle.records.specs.Step.{rankOf}
+use Rattle.records.specs.declared.SoFar.{SoFar}
+use Rattle.records.specs.declared.Stage.{Stage}
+use Rattle.records.specs.declared.Stage.the-variants.{Tests, Faults, Responses, Ended}
 use Rattle.book_laws.proofs.Accepted.{past-end}
 use Rattle.book_laws.proofs.Along.{so, Along}
 use Rattle.book_laws.proofs.Bytes.{book-bytes}

@@ -8,7 +8,7 @@ use Rattle.table.specs.declared.Verdict.the-variants.{Refused}
 use Rattle.table.specs.Table.{emptyTable}
 use Rattle.book.specs.Reading.{after}
 use Rattle.book.specs.Sound.{recordAt}
-use Rattle.book.specs.declared.SoFar.{SoFar}
+use Rattle.records.specs.declared.SoFar.{SoFar}
 
 -- "gives the records one by one; what has been read so far goes in and comes back beside it": at most n calls, from a place on
 abbrev pub callsFrom : ℕ → List ℕ → ℕ → SoFar → Reading

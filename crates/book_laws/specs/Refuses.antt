@@ -11,8 +11,8 @@ use Rattle.table.specs.declared.Table.{Table}
 use Rattle.book.specs.BookOf.{bookOf}
 use Rattle.table.specs.declared.Refusal.{Refusal}
 use Rattle.book.specs.Given.{Reached}
-use Rattle.book.specs.Step.{Check, ruleAt}
-use Rattle.book.specs.declared.SoFar.{SoFar}
+use Rattle.records.specs.Step.{Check, ruleAt}
+use Rattle.records.specs.declared.SoFar.{SoFar}
 
 -- "Given exactly when", "Within a record the order is that of this list.": its own condition holds, and none before it
 abbrev pub Refuses : Refusal → List Check → Type 0

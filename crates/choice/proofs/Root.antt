@@ -1,6 +1,7 @@
 -- The root of the search: what is found there among the kept tests is the choice. Assumes nothing.
+use mathlib.Core.Bool.{Bool, true, false, not}
 use mathlib.Core.List.{List, _++_}
-use mathlib.Core.Logic.{inr, ⊎-elim}
+use mathlib.Core.Logic.{inl, inr, ⊎-elim}
 use mathlib.Core.Path.{_≡_, refl, sym, ap, _∙_}
 use Prim.Native.Nat.{ℕ, _^_, _≤_, _<_}
 use native.Mathlib.Nat.{mod-one}
@@ -13,11 +14,14 @@ use Rattle.sets.specs.Sets.{Within, one}
 use Rattle.sets.specs.Collect.{setOf}
 use Rattle.sets.proofs.Bits.{below-of-bits}
 use Rattle.sets.proofs.Weight.{weight-empty, size-most}
+use Rattle.table.specs.Test.{Tested}
 use Rattle.table.specs.WellFormed.{WellFormed}
+use Rattle.table.specs.declared.Chosen.{Chosen}
 use Rattle.table.specs.declared.Chosen.the-variants.{Tests, Refused}
-use Rattle.table.specs.declared.Refusal.the-variants.{NoneWithinCap}
+use Rattle.table.specs.declared.Refusal.the-variants.{NotWellFormed, CapTooHigh, NoneWithinCap}
 use Rattle.table.specs.declared.Goal.{Goal}
 use Rattle.table.specs.declared.Table.{Table}
+use Rattle.table.proofs.Formed.{well, ill}
 use Rattle.terms.specs.Terms.{Reaches, Kept}
 use Rattle.terms_laws.proofs.Choice.{choice-exists, choice-fewest, strike-out}
 use Rattle.cover.specs.declared.inner.Masks.{Masks}
@@ -98,6 +102,18 @@ module _ (tb : Table) (formed : WellFormed tb) (goal : Goal) where
   capped cap l Nothing none = absurd none
 
 -- ---- the code's tests
+
+module _ (tb : Table) (goal : Goal) (cap : ℕ) (r : Bool) (told : Tested tb r) where
+  pub refuses-table : not r ≡ true → ChoiceIs tb goal cap (Refused NotWellFormed)
+  refuses-table n = inl (refl, ill tb r told n)
+
+  pub refuses-cap : not r ≡ false → 24 < cap → ChoiceIs tb goal cap (Refused CapTooHigh)
+  refuses-cap n l = inr (inl (refl, well tb r told n, l))
+
+  pub chooses : not r ≡ false → cap ≤ 24 → (found : Found) → Sought tb goal found → (chosen : Chosen) → chosen ≡ withinCap found cap → ChoiceIs tb goal cap chosen
+  chooses n l found b chosen e = rw e (capped tb (well tb r told n) goal cap l found b)
+
+pub ruleset choosing = (well, refuses-table, refuses-cap, chooses)
 
 module _ (found : Found) (cap : ℕ) where
   module _ (s n : ℕ) (e : found ≡ Set s n) where

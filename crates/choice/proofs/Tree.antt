@@ -28,6 +28,18 @@ module _ (w : ℕ → ℕ) (masks : List ℕ) (keep t chosen : ℕ) where
   open-limit : (limit limit' s : ℕ) → Open w masks keep t chosen limit s → weight w s < limit' → Open w masks keep t chosen limit' s
   open-limit limit limit' s o l = record { below = o .below; agrees = o .agrees; keeps = o .keeps; hits = o .hits; light = l }
 
+  -- what is best below a limit is best below a higher one: an open set that is not below the first limit is heavier
+  best-raised : (limit limit' s n : ℕ) → limit ≤ limit' → Best w masks keep t chosen limit (Set s n) → Best w masks keep t chosen limit' (Set s n)
+  best-raised limit limit' s n l b = (
+    open-limit limit limit' s (b .0) (omega (arith, b .0 .light)),
+    b .1,
+    λ s' o. ⊎-elim (λ h. b .2 s' (open-limit limit' limit s' o h)) (λ h. inl (omega (arith, b .0 .light))) (lt-or-ge (weight w s') limit),
+  )
+
+  -- the same for the set as the code has it
+  pub best-found : (limit limit' s n : ℕ) (r : Found) → r ≡ Set s n → limit ≤ limit' → Best w masks keep t chosen limit r → Best w masks keep t chosen limit' r
+  best-found limit limit' s n r e l b = rw e (best-raised limit limit' s n l (rw e at b))
+
   open-in-down : (limit s : ℕ) → bit s t ≡ 1 → Open w masks keep t chosen limit s → Open w masks keep (t + 1) (chosen + 2 ^ t) limit s
   open-in-down limit s e o = record {
     below = o .below;
@@ -88,7 +100,7 @@ module _ (w : ℕ → ℕ) (masks : List ℕ) (keep t chosen : ℕ) where
         b s' (open-out-down limit s' (⊎-elim (λ e. e) (λ e. absurd (omega (arith, o .keeps t (omega arith) e))) (bit-cases s' t)) o)
 
     -- test t is keep: `first` is the best with t in, `later` the best with t out and lighter than `first`
-    pub best-join : (limit : ℕ) (first later : Found) → bit keep t ≡ 1 → Best w masks keep (t + 1) (chosen + 2 ^ t) limit first
+    best-join : (limit : ℕ) (first later : Found) → bit keep t ≡ 1 → Best w masks keep (t + 1) (chosen + 2 ^ t) limit first
         → Best w masks keep (t + 1) chosen (limitAfter first limit) later → Best w masks keep t chosen limit (orElse later first)
     best-join limit (Set s n) (Set r m) k a b = (
       open-limit n limit r (open-out-up n r (b .0)) (omega (arith, b .0 .light, a .1, a .0 .light)),
@@ -114,6 +126,11 @@ module _ (w : ℕ → ℕ) (masks : List ℕ) (keep t chosen : ℕ) where
     )
     best-join limit Nothing Nothing k a b = λ s' o.
         ⊎-elim (λ e. b s' (open-out-down limit s' e o)) (λ e. a s' (open-in-down limit s' e o)) (bit-cases s' t)
+
+    -- the same for the answer as the code has it
+    pub best-joined : (limit : ℕ) (first later r : Found) → r ≡ orElse later first → bit keep t ≡ 1 → Best w masks keep (t + 1) (chosen + 2 ^ t) limit first
+        → Best w masks keep (t + 1) chosen (limitAfter first limit) later → Best w masks keep t chosen limit r
+    best-joined limit first later r e k a b = rw e (best-join limit first later k a b)
 
 pub limit-after-le : (w : ℕ → ℕ) (masks : List ℕ) (keep t chosen limit : ℕ) (r : Found) → Best w masks keep t chosen limit r → limitAfter r limit ≤ limit
 limit-after-le w masks keep t chosen limit (Set s n) b = omega (arith, b .1, b .0 .light)

@@ -22,7 +22,7 @@ fn chosen_for(table: Table, goal: Goal) -> Found
     let mut list = masks.list;
     let kept = cover::inner::kept_tests(&list[..n], table.tests);
     order::few_first(&mut list[..n], kept);
-    search::best(&list[..n], 0, kept, 0, 0, 0, 25)
+    search::lightest(&list[..n], kept)
 }
 
 // The set that was found, where it weighs no more than the cap.

@@ -31,12 +31,16 @@ fn sized_first(masks: &mut [u32], kept: u32, from: usize, n: usize) -> usize
     front
 }
 
+// Ends once every mask has its place.
 pub fn few_first(masks: &mut [u32], kept: u32)
     ensures { λ r. ⌜ Reordered (now (masks .entry)) (now (masks .exit)) ⌝ }
 {
     let mut front: usize = 0;
     let mut n: usize = 0;
     while n <= 24 {
+        if front == masks.len() {
+            return;
+        }
         front = sized_first(masks, kept, front, n);
         n += 1;
     }

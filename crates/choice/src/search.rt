@@ -108,7 +108,7 @@ fn still_needed(masks: &[u32], from: usize, kept: u32, t: usize, chosen: u32, ro
 }
 
 // The first of the lightest sets below `limit` that hit every mask, are `chosen` below t and take kept tests from t on.
-pub fn best(
+fn best(
     masks: &[u32],
     from: usize,
     kept: u32,
@@ -148,4 +148,19 @@ pub fn best(
         limit_after(first, limit),
     );
     or_else(later, first)
+}
+
+// The first of the lightest sets. The limit rises until a set is below it, so that no heavier set is looked into.
+pub fn lightest(masks: &[u32], kept: u32) -> Found
+    ensures { λ r. ⌜ Best one (now (masks .entry)) kept 0 0 25 r ⌝ }
+{
+    let mut limit: u32 = 1;
+    while limit < 25 {
+        let found = best(masks, 0, kept, 0, 0, 0, limit);
+        match found {
+            Found::Set(_, _) => return found,
+            Found::Nothing => limit += 1,
+        }
+    }
+    best(masks, 0, kept, 0, 0, 0, 25)
 }

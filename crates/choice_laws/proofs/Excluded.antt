@@ -3,10 +3,9 @@
 use mathlib.Core.Bool.{Bool, true}
 use mathlib.Core.List.{List, [], _∷_}
 use mathlib.Core.Path.{_≡_, refl, ap}
-use Prim.Native.Nat.{ℕ, suc, _<_}
+use Prim.Native.Nat.{ℕ, _<_}
 use native.Mathlib.Omega.{arith}
-use lib.ListN.{length, set}
-use Rattle.folds.specs.Fold.{both, every, some, total, joined, single, always, listed, onto, count, first}
+use Rattle.folds.specs.Fold.{both, every, some, total, joined, single, always, onto, count, first}
 use Rattle.folds.proofs.Bools.{both-left, both-right}
 use Rattle.sets.specs.Sets.{bit, has, within, share, one}
 use Rattle.sets.specs.Collect.{withTest, setOf}
@@ -15,6 +14,7 @@ use Rattle.sets.proofs.Weight.{size-most}
 use Rattle.table.specs.Answers.{chosenSet}
 use Rattle.table.specs.Table.{placeOf, cellAt, emptyTable}
 use Rattle.table.specs.Test.{differ, fresh, labelRight, cellRight, rowRight, wellFormed}
+use Rattle.table.specs.WellFormed.{WellFormed}
 use Rattle.table.specs.declared.Chosen.the-variants.{Tests, Refused}
 use Rattle.table.specs.declared.Goal.{Goal}
 use Rattle.table.specs.declared.Goal.the-variants.{Detect, Diagnose}
@@ -27,50 +27,8 @@ use Rattle.terms.specs.Terms.{TestOf, classOf, signature}
 use Rattle.cover.specs.Masks.{goalPair, differs, maskOf, goalMask, counts, maskRow, masksOf}
 use Rattle.choice.specs.Answer.{ChoiceIs}
 use Rattle.choice.proofs.Pins.{apart, choose-pins}
+use Rattle.choice_laws.proofs.Tables.{rowFrom, rowsFrom, small, seen, unseen, equal, two, six, more}
 use Rattle.choice_laws.proofs.Small.{sameIn, leadsIn, precedes, hitsAt, hits, hitting, eachReaching, isChoice, choice-by}
-
--- ---- small tables: a row for each test, the correct output first, then that of each fault
-
-rowFrom : ℕ → ℕ → List ℕ → List ℕ → List ℕ
-rowFrom t c [] cells = cells
-rowFrom t c (v ∷ row) cells = set (rowFrom t (suc c) row cells) (placeOf t c) v
-
-rowsFrom : ℕ → List (List ℕ) → List ℕ → List ℕ
-rowsFrom t [] cells = cells
-rowsFrom t (row ∷ rows) cells = rowFrom t 0 row (rowsFrom (suc t) rows cells)
-
-small : ℕ → List (List ℕ) → Table
-small faults rows = record {
-  tests = length rows;
-  faults = faults;
-  cells = rowsFrom 0 rows (emptyTable .cells);
-  lines = onto (listed suc faults) (emptyTable .lines);
-  stuck = emptyTable .stuck;
-}
-
--- one test and a fault that it sees
-pub seen : Table
-seen = small 1 ((0 ∷ 1 ∷ []) ∷ [])
-
--- "The same without its response"
-pub unseen : Table
-unseen = small 1 ((0 ∷ 0 ∷ []) ∷ [])
-
--- "Two equal tests and one fault they see"
-pub equal : Table
-equal = small 1 ((0 ∷ 1 ∷ []) ∷ (0 ∷ 1 ∷ []) ∷ [])
-
--- "Two tests, correct 0 0; fault a gives 1 1, fault b gives 1 2"
-pub two : Table
-two = small 2 ((0 ∷ 1 ∷ 1 ∷ []) ∷ (0 ∷ 1 ∷ 2 ∷ []) ∷ [])
-
--- "Six faults; test 0 sees the 1st, 2nd, 4th, 5th, test 1 the first three, test 2 the last three"
-pub six : Table
-six = small 6 ((0 ∷ 1 ∷ 1 ∷ 0 ∷ 1 ∷ 1 ∷ 0 ∷ []) ∷ (0 ∷ 1 ∷ 1 ∷ 1 ∷ 0 ∷ 0 ∷ 0 ∷ []) ∷ (0 ∷ 0 ∷ 0 ∷ 0 ∷ 1 ∷ 1 ∷ 1 ∷ []) ∷ [])
-
--- test 1 sees what test 0 sees and one fault more, which test 2 sees too
-pub more : Table
-more = small 3 ((0 ∷ 1 ∷ 0 ∷ 0 ∷ []) ∷ (0 ∷ 1 ∷ 1 ∷ 0 ∷ []) ∷ (0 ∷ 0 ∷ 1 ∷ 1 ∷ []) ∷ [])
 
 -- ---- what the promise leaves: a table, a goal, and the choice
 
@@ -117,6 +75,9 @@ claims-of (r ∷ rs) h = (meets r (both-left _ _ h), claims-of rs (both-right (r
 left : Claims rows
 unfolding right allRight seen unseen equal two six more small rowFrom rowsFrom emptyTable placeOf cellAt onto joined single always wellFormed labelRight fresh differ rowRight cellRight every some isChoice eachReaching hitting hits hitsAt precedes leadsIn sameIn within has total share one bit masksOf maskRow counts goalMask goalPair maskOf setOf withTest differs agrees
 left = claims-of rows refl
+
+pub two-formed : WellFormed two
+two-formed = left .1 .1 .1 .0 .0
 
 -- ---- what it excludes
 

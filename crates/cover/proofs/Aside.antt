@@ -6,11 +6,10 @@ use mathlib.Core.Path.{_≡_, refl, sym, ap, _∙_}
 use Prim.Native.Nat.{ℕ, zero, suc, _+_, _-_, _^_, _≤_, _<_}
 use native.Mathlib.Numerals.{add-one}
 use native.Mathlib.Omega.{arith}
-use borrow.Author.Tests.{ltb-true, lt-ltb, eqb-true, eq-eqb, not-true, not-false}
+use borrow.Author.Tests.{eqb-true, eq-eqb, not-true, not-false}
 use lib.Bits.{bitAnd}
-use lib.Dec.{ltb}
 use lib.ListN.{length, getD}
-use Rattle.folds.proofs.Bools.{clash, both-true, both-left, both-right, both-cases, either-left, either-right, either-second}
+use Rattle.folds.proofs.Bools.{clash, both-left, both-right, both-cases, either-left, either-right, either-second}
 use Rattle.folds.proofs.Every.{every-at, every-of}
 use Rattle.folds.proofs.Some.{some-of, some-at}
 use Rattle.folds.proofs.All.{AllOf}
@@ -24,8 +23,9 @@ use Rattle.table.specs.declared.Goal.the-variants.{Detect}
 use Rattle.table.specs.declared.Table.{Table}
 use Rattle.terms.specs.Terms.{TestOf, GoalPair, Counts, Covers, Aside, Kept, Essential}
 use Rattle.cover.specs.Masks.{masksOf}
-use Rattle.cover.specs.Kept.{hasAt, followsAt, follows, isAt, maskIs, used, covers, outdoneBy, outdone, kept, lone}
+use Rattle.cover.specs.Kept.{hasAt, followsAt, follows, isAt, maskIs, used, covers, outdone, kept, lone}
 use Rattle.cover.specs.Answer.{keptSet, loneSet, Exactly, AsideTest}
+use Rattle.cover.proofs.Kept.{outdone-by, outdone-at}
 use Rattle.cover.proofs.Goals.{pairMask, mask-lt, mask-separates, mask-in, masks-all, masks-at}
 
 -- ---- what the tests over masks say
@@ -54,16 +54,6 @@ module _ (masks : List ℕ) (t : ℕ) where
         (λ e. either-left (not (has (getD masks k 0) t)) _ (rw (has-no (getD masks k 0) t e)))
         (λ e. either-right (not (has (getD masks k 0) t)) _ (has-yes (getD masks k 0) u (h k l e)))
         (bit-cases (getD masks k 0) t))
-
-  outdone-by : (u tests : ℕ) → u < tests → u < t → covers masks u t ≡ true → outdone masks tests t ≡ true
-  unfolding outdone outdoneBy
-  outdone-by u tests l m h = some-of (outdoneBy masks t) tests u l (both-true _ _ (lt-ltb u t m) h)
-
-  outdone-at : (tests : ℕ) → outdone masks tests t ≡ true → (u : ℕ) × (u < tests) × (u < t) × (covers masks u t ≡ true)
-  unfolding outdone outdoneBy
-  outdone-at tests h =
-      let w = some-at (outdoneBy masks t) tests h in
-      (w .0, w .1, ltb-true (w .0) t (both-left _ _ (w .2)), both-right (ltb (w .0) t) _ (w .2))
 
 -- ---- the kept tests
 

@@ -12,10 +12,11 @@ use Rattle.folds.proofs.Onto.{onto-length, onto-front, onto-room, onto-behind}
 use Rattle.folds.proofs.Joined.{joined-none, joined-yes}
 use Rattle.sets.specs.Collect.{setOf}
 use Rattle.table.specs.declared.Goal.{Goal}
+use Rattle.table.specs.declared.Goal.the-variants.{Detect}
 use Rattle.table.specs.declared.Table.{Table}
 use Rattle.cover.specs.declared.inner.Masks.{Masks}
-use Rattle.cover.specs.Answer.{keptSet}
-use Rattle.cover.specs.Kept.{kept}
+use Rattle.cover.specs.Answer.{keptSet, loneSet}
+use Rattle.cover.specs.Kept.{kept, lone}
 use Rattle.cover.specs.Masks.{maskRow, masksOf}
 use Rattle.cover.specs.Filled.{noMasks, Filled}
 use Rattle.cover.proofs.Masks.{row-few}
@@ -90,3 +91,8 @@ module _ (tb : Table) (goal : Goal) (r : Masks) (f : Filled tb goal r) where
   pub filled-kept : (keep : ℕ) → keep ≡ setOf (kept (take (r .count) (r .list)) (tb .tests)) (tb .tests) → keep ≡ keptSet tb goal
   unfolding keptSet
   filled-kept keep e = rw (← filled-take) e
+
+-- the tests that are alone in a mask of detect separate some fault from column 0 alone
+pub filled-lone : (tb : Table) (r : Masks) → Filled tb Detect r → (keep s : ℕ) → s ≡ setOf (lone (take (r .count) (r .list)) keep) (tb .tests) → s ≡ loneSet tb keep
+unfolding loneSet
+filled-lone tb r f keep s e = rw (← filled-take tb Detect r f) e

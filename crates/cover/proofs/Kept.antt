@@ -1,31 +1,15 @@
 -- Laws of the tests weighed by masks. Assumes nothing.
-use mathlib.Core.Bool.{Bool, true, false, not}
+use mathlib.Core.Bool.{Bool, true, false}
 use mathlib.Core.List.{List}
 use mathlib.Core.Path.{_≡_}
-use Prim.Native.Nat.{ℕ, _≤_, _<_}
-use borrow.Author.Tests.{le-ltb, lt-ltb, not-true, not-false}
-use Rattle.sets.specs.Sets.{has}
-use Rattle.cover.specs.Kept.{follows, covers, outdoneBy, outdone, used, kept}
+use Prim.Native.Nat.{ℕ, _<_}
+use borrow.Author.Tests.{ltb-true, lt-ltb}
+use lib.Dec.{ltb}
+use Rattle.folds.proofs.Bools.{both-true, both-left, both-right}
+use Rattle.folds.proofs.Some.{some-of, some-at}
+use Rattle.cover.specs.Kept.{covers, outdoneBy, outdone, used, kept}
 
 -- ---- the code's tests
-
-module _ (u t mask : ℕ) (r : Bool) (e : r ≡ has mask t) where
-  pub follows-free : not r ≡ true → true ≡ follows u t mask
-  unfolding follows
-  follows-free n = rw (← e, not-true r n)
-
-  pub follows-by : not r ≡ false → (r′ : Bool) → r′ ≡ has mask u → r′ ≡ follows u t mask
-  unfolding follows
-  follows-by n r′ h = rw (← e, not-false r n, h)
-
-module _ (masks : List ℕ) (u t : ℕ) where
-  pub outdoes-not : t ≤ u → false ≡ outdoneBy masks t u
-  unfolding outdoneBy
-  outdoes-not h = rw (le-ltb u t h)
-
-  pub outdoes-by : u < t → (r : Bool) → r ≡ covers masks u t → r ≡ outdoneBy masks t u
-  unfolding outdoneBy
-  outdoes-by h r e = rw (lt-ltb u t h, e)
 
 module _ (masks : List ℕ) (tests t : ℕ) (r : Bool) (e : r ≡ outdone masks tests t) where
   pub kept-not : r ≡ true → false ≡ kept masks tests t
@@ -35,3 +19,16 @@ module _ (masks : List ℕ) (tests t : ℕ) (r : Bool) (e : r ≡ outdone masks 
   pub kept-by : r ≡ false → (r′ : Bool) → r′ ≡ used masks t → r′ ≡ kept masks tests t
   unfolding kept
   kept-by h r′ q = rw (← e, h, q)
+
+-- ---- what it means that some test outdoes test t
+
+module _ (masks : List ℕ) (t : ℕ) where
+  pub outdone-by : (u tests : ℕ) → u < tests → u < t → covers masks u t ≡ true → outdone masks tests t ≡ true
+  unfolding outdone outdoneBy
+  outdone-by u tests l m h = some-of (outdoneBy masks t) tests u l (both-true _ _ (lt-ltb u t m) h)
+
+  pub outdone-at : (tests : ℕ) → outdone masks tests t ≡ true → (u : ℕ) × (u < tests) × (u < t) × (covers masks u t ≡ true)
+  unfolding outdone outdoneBy
+  outdone-at tests h =
+      let w = some-at (outdoneBy masks t) tests h in
+      (w .0, w .1, ltb-true (w .0) t (both-left _ _ (w .2)), both-right (ltb (w .0) t) _ (w .2))

@@ -1,9 +1,8 @@
 // Tests weighed by the masks that they are in.
 ghost use mathlib.Core.Path.{_≡_};
-ghost use Prim.Native.Nat.{_≤_, _<_};
-ghost use lib.ListN.{getD};
+ghost use Prim.Native.Nat.{_-_, _^_, _≤_, _<_};
 ghost use Rattle.sets.specs.Collect.{setOf};
-ghost use Rattle.cover.specs.Kept.{maskIs, used, follows, covers, outdoneBy, outdone, kept, lone};
+ghost use Rattle.cover.specs.Kept.{maskIs, used, covers, outdone, kept, lone};
 
 // Whether some mask has test t.
 fn used(masks: &[u32], t: usize) -> bool
@@ -20,61 +19,42 @@ fn used(masks: &[u32], t: usize) -> bool
     false
 }
 
-// Whether the mask has test u where it has test t.
-fn follows(mask: u32, u: usize, t: usize) -> bool
-    requires { ⌜ (u < 24) × (t < 24) ⌝ }
-    ensures { λ r. ⌜ r ≡ follows u t mask ⌝ }
+// The tests that are in every mask that test t is in; all of them where it is in none.
+fn shared_with(masks: &[u32], t: usize) -> u32
+    requires { ⌜ t < 24 ⌝ }
+    ensures { λ r. ⌜ r ≡ setOf (λ u. covers (now (masks .entry)) u t) 24 ⌝ }
 {
-    if !sets::inner::has(mask, t) {
-        return true;
-    }
-    sets::inner::has(mask, u)
-}
-
-// Whether test u is in every mask that test t is in.
-fn covers(masks: &[u32], u: usize, t: usize) -> bool
-    requires { ⌜ (u < 24) × (t < 24) ⌝ }
-    ensures { λ r. ⌜ r ≡ covers (now (masks .entry)) u t ⌝ }
-{
+    let mut shared: u32 = 16777215;
     let mut i: usize = 0;
     while i < masks.len() {
-        if !follows(masks[i], u, t) {
-            return false;
+        let mask = masks[i];
+        if sets::inner::has(mask, t) {
+            shared = shared & mask;
         }
         i += 1;
     }
-    true
+    shared
 }
 
-// Whether test u outdoes test t: it is lower, and in every mask that t is in.
-fn outdoes(masks: &[u32], u: usize, t: usize) -> bool
-    requires { ⌜ (u < 24) × (t < 24) ⌝ }
-    ensures { λ r. ⌜ r ≡ outdoneBy (now (masks .entry)) t u ⌝ }
+// The tests below t.
+fn lower_tests(t: usize) -> u32
+    requires { ⌜ t < 24 ⌝ }
+    ensures { λ r. ⌜ r ≡ 2 ^ t - 1 ⌝ }
 {
-    if t <= u {
-        return false;
-    }
-    covers(masks, u, t)
+    (1 << t) - 1
 }
 
-// Whether some test outdoes test t.
+// Whether some test outdoes test t: it is lower, and in every mask that t is in.
 fn outdone(masks: &[u32], tests: usize, t: usize) -> bool
-    requires { ⌜ (tests ≤ 24) × (t < 24) ⌝ }
+    requires { ⌜ (tests ≤ 24) × (t < tests) ⌝ }
     ensures { λ r. ⌜ r ≡ outdone (now (masks .entry)) tests t ⌝ }
 {
-    let mut i: usize = 0;
-    while i < tests {
-        if outdoes(masks, i, t) {
-            return true;
-        }
-        i += 1;
-    }
-    false
+    shared_with(masks, t) & lower_tests(t) != 0
 }
 
 // Whether test t is kept: no test outdoes it, and some mask has it.
 pub fn is_kept(masks: &[u32], tests: usize, t: usize) -> bool
-    requires { ⌜ (tests ≤ 24) × (t < 24) ⌝ }
+    requires { ⌜ (tests ≤ 24) × (t < tests) ⌝ }
     ensures { λ r. ⌜ r ≡ kept (now (masks .entry)) tests t ⌝ }
 {
     if outdone(masks, tests, t) {

@@ -26,6 +26,10 @@ pub both-right : (a b : Bool) → both a b ≡ true → b ≡ true
 both-right true b h = h
 both-right false b h = clash false h refl
 
+pub both-yes : (b : Bool) → b ≡ both b true
+both-yes true = refl
+both-yes false = refl
+
 pub both-false : (a : Bool) → both a false ≡ false
 both-false true = refl
 both-false false = refl

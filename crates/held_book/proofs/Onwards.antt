@@ -4,11 +4,11 @@ use mathlib.Core.Path.{_≡_, _∙_}
 use Prim.Native.Nat.{ℕ}
 use Rattle.book.specs.Given.{Reached, begun, read}
 use Rattle.book.specs.Sound.{recordAt}
-use Rattle.book.specs.Step.{start, stepAt}
-use Rattle.book.specs.declared.Outcome.the-variants.{Given}
-use Rattle.book.specs.declared.Record.{Record}
-use Rattle.book.specs.declared.SoFar.{SoFar}
-use Rattle.book.specs.declared.Stepped.{Stepped}
+use Rattle.records.specs.Step.{start, stepAt}
+use Rattle.records.specs.declared.Outcome.the-variants.{Given}
+use Rattle.records.specs.declared.Record.{Record}
+use Rattle.records.specs.declared.SoFar.{SoFar}
+use Rattle.records.specs.declared.Stepped.{Stepped}
 use Rattle.book.proofs.Loop.{reading}
 use Rattle.book_laws.proofs.Calls.{reached-call}
 

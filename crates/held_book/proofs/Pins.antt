@@ -4,8 +4,8 @@ use mathlib.Core.Path.{_≡_, sym, _∙_}
 use Prim.Native.Nat.{ℕ}
 use denote.Ref.{RefT, now}
 use Rattle.table.specs.declared.Reading.{Reading}
-use Rattle.book.specs.declared.SoFar.{SoFar}
-use Rattle.book.specs.declared.Stepped.{Stepped}
+use Rattle.records.specs.declared.SoFar.{SoFar}
+use Rattle.records.specs.declared.Stepped.{Stepped}
 use Rattle.book.specs.Reading.{readBook}
 use Rattle.book.specs.Sound.{recordAt}
 use Rattle.held_book.specs.declared.Reader.{Reader}

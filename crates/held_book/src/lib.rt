@@ -3,9 +3,9 @@ ghost use mathlib.Core.Path.{_≡_};
 ghost use Rattle.book.specs.Reading.{readingOf, readBook};
 ghost use Rattle.book.specs.Sound.{recordAt};
 ghost use Rattle.held_book.specs.Held.{Keeps};
-use book::Outcome;
-use book::SoFar;
-use book::Stepped;
+use records::Outcome;
+use records::SoFar;
+use records::Stepped;
 use table::Reading;
 use table::Verdict;
 

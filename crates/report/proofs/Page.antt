@@ -4,9 +4,7 @@ use mathlib.Core.Logic.{inl, inr}
 use mathlib.Core.Path.{_≡_, refl, sym, ap, _∙_}
 use Prim.Native.Nat.{ℕ, _≤_, _<_}
 use native.Mathlib.Omega.{arith}
-use borrow.Author.Tests.{le-leb, lt-leb}
 use lib.ListN.{getD, length, length-replicate, replicate, take}
-use lib.Seq.{take-append-seam}
 use mir.Syntax.{w8}
 use mir.Val.{Fits}
 use Rattle.book.specs.Reading.{readBook}
@@ -14,11 +12,12 @@ use Rattle.book_laws.proofs.Accepted.{accepted-gave, accepts-whole}
 use Rattle.sets.proofs.Weight.{size-most}
 use Rattle.choice.specs.Answer.{ChoiceIs}
 use Rattle.cover.specs.Answer.{AsideTest, Exactly, Gives}
-use Rattle.folds.specs.Fold.{onto}
-use Rattle.lent.specs.Lent.{roomNumber}
-use Rattle.report.proofs.Bound.{longest, text-most}
+use Rattle.folds.proofs.Onto.{onto-front}
+use Rattle.lent.proofs.Lent.{room-enough, room-short}
+use Rattle.lines.proofs.Lengths.{longest}
+use Rattle.report.proofs.Bound.{text-most}
 use Rattle.report.specs.Answer.{IsTableText, IsText, Paged, ReportIs}
-use Rattle.report.specs.Text.{refusedText, tableText}
+use Rattle.lines.specs.Text.{refusedText, tableText}
 use Rattle.sets.proofs.Bits.{below-of-bits}
 use Rattle.table.specs.Answers.{chosenSet, numberOf}
 use Rattle.table.specs.WellFormed.{WellFormed}
@@ -101,22 +100,19 @@ module _ (book page : List ℕ) (size : ℕ) (b : (i : ℕ) → Fits w8 (getD bo
   size-is = writes-all size (p .text) (replicate longest 0) page (p .writes) fits
 
   page-is : take size page ≡ p .text
-  unfolding onto
-  page-is = rw (size-is, writes-onto size (p .text) (replicate longest 0) page (p .writes) fits) (take-append-seam (p .text) _)
+  page-is = rw (size-is, writes-onto size (p .text) (replicate longest 0) page (p .writes) fits) (onto-front (p .text) _)
 
   pub page-part : size ≡ length (take size page)
   page-part = size-is ∙ ap length (sym page-is)
 
   pub report-short : (d : List ℕ) → length d < size → ReportIs book d (written.Refused BufferShort) d
-  unfolding roomNumber
   report-short d l = record {
     text = p .text;
     is-text = p .is-text;
-    written = record { number = rw (← size-is, lt-leb size (length d) l) refl; count = refl; buffer = refl };
+    written = record { number = sym (room-short (p .text) d (rw (← size-is) l)); count = refl; buffer = refl };
   }
 
   pub report-written : (r : ℕ) (d d′ : List ℕ) → size ≤ length d → Writes 0 (take size page) d r d′ → ReportIs book d (written.Bytes r) d′
-  unfolding roomNumber
   report-written r d d′ l v =
       let w : Writes 0 (p .text) d r d′ = rw page-is at v in
       let room : length (p .text) ≤ length d = rw (← size-is) l in
@@ -124,7 +120,7 @@ module _ (book page : List ℕ) (size : ℕ) (b : (i : ℕ) → Fits w8 (getD bo
         text = p .text;
         is-text = p .is-text;
         written = record {
-          number = rw (le-leb (length (p .text)) (length d) room) refl;
+          number = sym (room-enough (p .text) d room);
           count = writes-all r (p .text) d d′ w room;
           buffer = writes-onto r (p .text) d d′ w room;
         };

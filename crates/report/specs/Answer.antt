@@ -6,10 +6,9 @@ use Prim.Native.Nat.{ℕ}
 use Rattle.book.specs.Reading.{readBook}
 use Rattle.cover.specs.Answer.{AsideTest, Exactly}
 use Rattle.lent.specs.Lent.{WritesOnto}
-use Rattle.report.specs.Text.{refusedText, tableText}
+use Rattle.lines.specs.Text.{refusedText, tableText}
 use Rattle.table.specs.Answers.{numberOf}
 use Rattle.table.specs.declared.Goal.the-variants.{Detect, Diagnose}
-use Rattle.table.specs.declared.Reading.{Reading}
 use Rattle.table.specs.declared.Table.{Table}
 use Rattle.table.specs.declared.Verdict.{Verdict}
 use Rattle.table.specs.declared.Verdict.the-variants.{Accepted, Refused}

@@ -10,9 +10,6 @@ use table::Table;
 use table::Verdict;
 use table::Written;
 
-mod items;
-mod lines;
-
 // The tests of an answer, and none of a refusal.
 fn set_of(answer: Chosen) -> u32
     ensures { λ r. ⌜ r ≡ chosenSet answer ⌝ }
@@ -32,7 +29,7 @@ fn table_page(page: &mut [u8], table: Table) -> usize
     let essential = set_of(cover::essential(table, Goal::Diagnose));
     let detect = set_of(choice::choose(table, Goal::Detect, 24));
     let diagnose = set_of(choice::choose(table, Goal::Diagnose, 24));
-    lines::table(page, table, aside, essential, detect, diagnose)
+    lines::inner::table(page, table, aside, essential, detect, diagnose)
 }
 
 // Writes the text of a book.
@@ -44,8 +41,8 @@ fn page_of(book: &[u8], page: &mut [u8]) -> usize
     match verdict {
         Verdict::Accepted => table_page(page, reading.table),
         Verdict::Refused(why) => {
-            let number = items::wide(table::number(why));
-            lines::refused(page, 0, number, reading.place)
+            let number = items::inner::wide(table::number(why));
+            lines::inner::refused(page, 0, number, reading.place)
         }
     }
 }

@@ -44,6 +44,12 @@ pub lacks-bit : (s t : ℕ) → has s t ≡ false → bit s t ≡ 0
 unfolding has
 lacks-bit s t e = bit-out s t (eqb-false _ _ e)
 
+pub has-same : (s s′ t : ℕ) → has s t ≡ has s′ t → bit s t ≡ bit s′ t
+has-same s s′ t e = ⊎-elim
+    (λ x. x ∙ sym (lacks-bit s′ t (sym e ∙ has-no s t x)))
+    (λ x. x ∙ sym (has-bit s′ t (sym e ∙ has-yes s t x)))
+    (bit-cases s t)
+
 -- ---- the tests below t
 
 -- the tests up to t: those below t, and t

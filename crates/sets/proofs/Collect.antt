@@ -12,7 +12,7 @@ use Rattle.folds.specs.Fold.{pick}
 use Rattle.folds.proofs.Below.{below-cases}
 use Rattle.sets.specs.Sets.{bit, has}
 use Rattle.sets.specs.Collect.{withTest, setOf}
-use Rattle.sets.proofs.Bits.{bit-high, bit-below, has-no, top-lt, top-bit, top-below}
+use Rattle.sets.proofs.Bits.{bit-high, bit-below, bits-equal, has-no, has-same, top-lt, top-bit, top-below}
 
 -- ---- one test more at the top
 
@@ -69,6 +69,10 @@ module _ (p : ℕ → Bool) where
       go : (b : Bool) → eqb (pick b 1 0) 1 ≡ b
       go true = refl
       go false = refl
+
+  -- and is the only set that does
+  pub set-is : (n s : ℕ) → s < 2 ^ n → ((t : ℕ) → t < n → has s t ≡ p t) → s ≡ setOf p n
+  set-is n s h e = bits-equal n s (setOf p n) h (set-lt n) (λ t l. has-same s (setOf p n) t (e t l ∙ sym (set-tells n t l)))
 
   pub set-high : (n t : ℕ) → n ≤ t → has (setOf p n) t ≡ false
   set-high n t h = has-no (setOf p n) t (bit-high (setOf p n) n t (set-lt n) h)

@@ -1,4 +1,4 @@
--- Laws of the order of sets: it is total, antisymmetric and transitive. Assumes nothing.
+-- Laws of the order of sets: it is total, antisymmetric and transitive, and of two tests the lower comes first. Assumes nothing.
 use mathlib.Core.Path.{_≡_, refl, sym, ap, _∙_}
 use mathlib.Core.Logic.{_⊎_, inl, inr, ⊎-elim}
 use Prim.Native.Nat.{ℕ, zero, suc, _^_, _≤_, _<_}
@@ -6,7 +6,13 @@ use native.Mathlib.Omega.{arith}
 use Rattle.folds.proofs.Below.{below-cases, lt-or-ge, eq-or-ne}
 use Rattle.sets.specs.Sets.{bit, weight, Before, Precedes}
 use Rattle.sets.proofs.Bits.{bit-cases, bits-equal, some-bit, bit-below}
+use Rattle.sets.proofs.Flip.{pow-bit, pow-bit-other}
 use Rattle.sets.proofs.Weight.{weight-empty, weight-out}
+
+-- which way the order goes: the set of a lower test alone comes before that of a higher one
+pub lower-first : (t u : ℕ) → t < u → Before (2 ^ t) (2 ^ u)
+lower-first t u l =
+    (t, pow-bit t, pow-bit-other u t (λ e. omega arith), λ i m. pow-bit-other t i (λ e. omega arith) ∙ sym (pow-bit-other u i (λ e. omega arith)))
 
 pub before-not : (s s' : ℕ) → Before s s' → Before s' s → ⊥
 before-not s s' (i, a, b, e) (j, a', b', e') =

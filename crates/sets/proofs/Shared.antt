@@ -5,10 +5,12 @@ use Prim.Native.Nat.{ℕ, _/_, _%_, _^_, _<_, min, max}
 use native.Mathlib.Omega.{arith}
 use lib.Arith.{digits-mod}
 use lib.Bits.{bitAnd, and-shr, and-step, bitOr, or-shr, or-step}
+use lib.Dec.{eqb}
 use lib.Pow.{pow-lt}
+use Rattle.folds.specs.Fold.{both}
 use Rattle.folds.proofs.Below.{eq-or-ne}
-use Rattle.sets.specs.Sets.{bit, Shares}
-use Rattle.sets.proofs.Bits.{bit-lt, bit-out, bit-zero, bit-below, bits-equal, below-of-bits, some-bit}
+use Rattle.sets.specs.Sets.{bit, has, Shares}
+use Rattle.sets.proofs.Bits.{bit-lt, bit-cases, bit-out, has-yes, has-no, bit-zero, bit-below, bits-equal, below-of-bits, some-bit}
 use Rattle.sets.proofs.Flip.{pow-bit, pow-bit-other}
 
 pub bit-and : (a b t : ℕ) → bit (bitAnd a b) t ≡ min (bit a t) (bit b t)
@@ -16,6 +18,13 @@ unfolding bit
 bit-and a b t =
     ap (λ (x : ℕ). x % 2) (and-shr a b t ∙ and-step (a / 2 ^ t) (b / 2 ^ t))
     ∙ digits-mod (bitAnd (a / 2 ^ t / 2) (b / 2 ^ t / 2)) {m = 2} (omega arith)
+
+pub has-and : (a b t : ℕ) → has (bitAnd a b) t ≡ both (has a t) (has b t)
+unfolding has
+has-and a b t = ⊎-elim
+    (λ x. has-no (bitAnd a b) t (omega (arith, bit-and a b t)) ∙ rw (has-no a t x))
+    (λ x. let e : bit (bitAnd a b) t ≡ bit b t = omega (arith, bit-and a b t, bit-lt b t) in rw (has-yes a t x) (ap (λ (k : ℕ). eqb k 1) e))
+    (bit-cases a t)
 
 pub bit-or : (a b t : ℕ) → bit (bitOr a b) t ≡ max (bit a t) (bit b t)
 unfolding bit

@@ -14,9 +14,9 @@ use Rattle.table.specs.Table.{cellAt, emptyTable, placeOf}
 use Rattle.table.specs.Test.{cellRight, differ, fresh, labelRight, rowRight, wellFormed}
 use Rattle.terms.specs.Terms.{classCount}
 use Rattle.terms.specs.Columns.{agrees, alike, apart, lowest}
-use Rattle.book.specs.Grow.{differs, filled}
+use Rattle.grow.specs.Grow.{differs, filled}
 use Rattle.book.specs.Reading.{readBook}
-use Rattle.book.specs.Step.{edgeRule, endRule, faultRule, firstOf, kindRule, responseRule, ruleAt, stepAt, testRule, unknownRule}
+use Rattle.records.specs.Step.{edgeRule, endRule, faultRule, firstOf, kindRule, responseRule, ruleAt, stepAt, testRule, unknownRule}
 use Rattle.cover.specs.Answer.{keptSet}
 use Rattle.cover.specs.Kept.{covers, follows, followsAt, hasAt, kept, outdone, outdoneBy, used}
 use Rattle.small_books.specs.Books.{smallBooks}

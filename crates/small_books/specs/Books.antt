@@ -25,7 +25,7 @@ twoFaults =
     ∷ 0x45 ∷ 0x02 ∷ 0x02 ∷ []
 
 -- "Two equal tests and one fault they see"
-abbrev equalTests : List ℕ
+abbrev pub equalTests : List ℕ
 equalTests =
     0x54 ∷ 0x00 ∷ 0x54 ∷ 0x00
     ∷ 0x46 ∷ 0x01 ∷ 0x00

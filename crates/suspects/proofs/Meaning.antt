@@ -67,7 +67,7 @@ module _ (tb : Table) (s : ℕ) (seen : List ℕ) (formed : wellFormed tb ≡ tr
   answer-found = rw (formed, known, eq-eqb _ _ each)
 
   module _ (a : Suspects) (e : a ≡ suspectsOf tb s seen) where
-    counted : a .count ≡ count (suspect (outputAt tb) (tb .tests) s seen) (columns tb)
+    pub counted : a .count ≡ count (suspect (outputAt tb) (tb .tests) s seen) (columns tb)
     unfolding foundUnder
     counted = rw (e, answer-found)
 

@@ -1,6 +1,7 @@
 -- Number and value say which answer it is. Assumes nothing.
 use mathlib.Core.Path.{_≡_, refl, sym, _∙_}
-use Prim.Native.Nat.{ℕ}
+use Prim.Native.Nat.{ℕ, _<_}
+use native.Mathlib.Omega.{arith}
 use lib.Dec.{eqb}
 use Rattle.folds.specs.Fold.{pick}
 use Rattle.table.specs.declared.Refusal.{Refusal}
@@ -10,6 +11,27 @@ use Rattle.table.specs.declared.Written.{Written}
 use Rattle.table.specs.Answers.{numberOf, faultsNumber, faultsSet, writtenNumber, writtenCount}
 use Rattle.table.specs.declared.Faults.the-variants as faults
 use Rattle.table.specs.declared.Written.the-variants as written
+
+-- a refusal has a number of one or two digits, and not 0
+pub number-bounds : (why : Refusal) → (0 < numberOf why) × (numberOf why < 100)
+number-bounds UnknownKind = (omega arith, omega arith)
+number-bounds BodyCut = (omega arith, omega arith)
+number-bounds NoEnd = (omega arith, omega arith)
+number-bounds OutOfPlace = (omega arith, omega arith)
+number-bounds TooMany = (omega arith, omega arith)
+number-bounds StuckValue = (omega arith, omega arith)
+number-bounds SameLabel = (omega arith, omega arith)
+number-bounds NotInBook = (omega arith, omega arith)
+number-bounds NotAfter = (omega arith, omega arith)
+number-bounds RepeatsCorrect = (omega arith, omega arith)
+number-bounds WrongCounts = (omega arith, omega arith)
+number-bounds BytesFollow = (omega arith, omega arith)
+number-bounds NotWellFormed = (omega arith, omega arith)
+number-bounds UnknownTest = (omega arith, omega arith)
+number-bounds CapTooHigh = (omega arith, omega arith)
+number-bounds NoneWithinCap = (omega arith, omega arith)
+number-bounds BufferShort = (omega arith, omega arith)
+number-bounds NotOneEach = (omega arith, omega arith)
 
 -- the refusal of a number
 refusalOf : ℕ → Refusal

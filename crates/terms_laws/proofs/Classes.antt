@@ -12,14 +12,15 @@ use Rattle.folds.specs.Fold.{count, Tells}
 use Rattle.folds.proofs.Bools.{clash, tells-yes, tells-by, told-true}
 use Rattle.folds.proofs.Below.{below-cases, lt-or-ge}
 use Rattle.folds.proofs.Every.{every-none, every-at, every-of, every-fails, every-lacks}
-use Rattle.folds.proofs.Count.{count-none, count-less, count-reaches}
+use Rattle.folds.proofs.Count.{count-none, count-le, count-less, count-reaches}
 use Rattle.folds.proofs.First.{first-found, first-none, first-below, first-has, first-le}
 use Rattle.folds.proofs.Gather.{gather-get, gather-agree}
 use Rattle.sets.specs.Sets.{has}
-use Rattle.table.specs.Table.{outputAt}
+use Rattle.table.specs.Table.{outputAt, columns}
+use Rattle.table.specs.WellFormed.{WellFormed}
 use Rattle.table.specs.declared.Table.{Table}
 use Rattle.terms.specs.Columns.{agrees, outputOf, alike, apart, lowest, lowestOf, classNumber, outputsUnder}
-use Rattle.terms.specs.Terms.{Alike, Undetectable, classOf}
+use Rattle.terms.specs.Terms.{Alike, Undetectable, classCount, classOf}
 
 module _ (out : ℕ → ℕ → ℕ) (tests : ℕ) where
   -- ---- columns that no test separates
@@ -196,3 +197,7 @@ undetectable-zero tb f h = sym (alike-class tb 0 (f + 1) h) ∙ class-zero (outp
 
 pub zero-undetectable : (tb : Table) (f : ℕ) → classOf tb (f + 1) ≡ 0 → Undetectable tb f
 zero-undetectable tb f e = one-class tb 0 (f + 1) (class-zero (outputAt tb) (tb .tests) ∙ sym e)
+
+-- a class for each column at most
+pub few-classes : (tb : Table) → WellFormed tb → classCount tb ≤ 61
+few-classes tb w = omega (arith, w .faults-fit, count-le (lowest (outputAt tb) (tb .tests)) (columns tb))

@@ -11,10 +11,10 @@ use Rattle.table.specs.declared.Chosen.the-variants.{Tests, Refused}
 use Rattle.table.specs.declared.Goal.{Goal}
 use Rattle.table.specs.declared.Table.{Table}
 use Rattle.choice.specs.Answer.{ChoiceIs}
+use Rattle.flat.specs.Flat.{lentTable}
+use Rattle.flat.specs.Packed.{packed, goalOf, unknownGoal, capOf}
+use Rattle.flat.proofs.Numbers.{cap-high, cap-low}
 use Rattle.tockbronze.specs.Calls.{ForGoal}
-use Rattle.tockbronze.specs.Flat.{lentTable}
-use Rattle.tockbronze.specs.Packed.{packed, goalOf, unknownGoal, capOf}
-use Rattle.tockbronze.proofs.Numbers.{cap-high, cap-low}
 
 module _ (Given : Table → Goal → Chosen → Type 0) (bytes : List ℕ) (goal r : ℕ) (tb : Table) (lent : tb ≡ lentTable bytes) where
   pub no-goal : 1 < goal → r ≡ unknownGoal tb → ForGoal Given bytes goal r

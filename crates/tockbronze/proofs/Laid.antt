@@ -14,58 +14,26 @@ use Rattle.table.specs.Table.{outputAt, columns}
 use Rattle.table.specs.Test.{Tested, wellFormed}
 use Rattle.table.specs.declared.Classes.{Classes}
 use Rattle.table.specs.declared.Refusal.{Refusal}
-use Rattle.table.specs.declared.Refusal.the-variants.{UnknownKind, BodyCut, NoEnd, OutOfPlace, TooMany, StuckValue, SameLabel, NotInBook, NotAfter, RepeatsCorrect, WrongCounts, BytesFollow, NotWellFormed, UnknownTest, CapTooHigh, NoneWithinCap, BufferShort, NotOneEach}
+use Rattle.table.specs.declared.Refusal.the-variants.{NotWellFormed, UnknownTest}
 use Rattle.table.specs.declared.Suspects.{Suspects}
 use Rattle.table.specs.declared.Table.{Table}
 use Rattle.table.specs.declared.Verdict.the-variants.{Accepted, Refused}
 use Rattle.table.proofs.Formed.{accepted, rejected, well, formed}
-use Rattle.lent.specs.Lent.{roomNumber}
 use Rattle.classes.specs.Classes.{classesOf}
 use Rattle.suspects.specs.Suspects.{suspect, suspectsOf, foundUnder, refusedBy}
-use Rattle.tockbronze.specs.Calls.{CallWrites, ClassesWritten, ClassesCall, SuspectsWritten, SuspectsCall}
-use Rattle.tockbronze.specs.Flat.{lentTable}
-use Rattle.tockbronze.specs.Packed.{packed}
-use Rattle.tockbronze.proofs.Buffers.{few-classes}
-
--- ---- refusals
-
-room-refused : (earlier : ℕ) (answer d : List ℕ) → eqb earlier 0 ≡ false → roomNumber earlier answer d ≡ earlier
-unfolding roomNumber
-room-refused earlier answer d e = rw e refl
-
--- a call that is refused before the buffer is looked at
-pub call-refused : (earlier value : ℕ) (answer d : List ℕ) → eqb earlier 0 ≡ false → CallWrites earlier value answer d earlier d
-unfolding packed
-call-refused earlier value answer d e = record { is = rw (room-refused earlier answer d e, e) (omega arith); buffer = rw (room-refused earlier answer d e, e) refl }
-
--- every refusal has a number
-pub refusal-some : (why : Refusal) → eqb (numberOf why) 0 ≡ false
-refusal-some UnknownKind = refl
-refusal-some BodyCut = refl
-refusal-some NoEnd = refl
-refusal-some OutOfPlace = refl
-refusal-some TooMany = refl
-refusal-some StuckValue = refl
-refusal-some SameLabel = refl
-refusal-some NotInBook = refl
-refusal-some NotAfter = refl
-refusal-some RepeatsCorrect = refl
-refusal-some WrongCounts = refl
-refusal-some BytesFollow = refl
-refusal-some NotWellFormed = refl
-refusal-some UnknownTest = refl
-refusal-some CapTooHigh = refl
-refusal-some NoneWithinCap = refl
-refusal-some BufferShort = refl
-refusal-some NotOneEach = refl
+use Rattle.terms_laws.proofs.Classes.{few-classes}
+use Rattle.flat.specs.Flat.{lentTable}
+use Rattle.flat.specs.Writes.{CallWrites}
+use Rattle.flat.proofs.Room.{call-refused, refusal-some}
+use Rattle.tockbronze.specs.Calls.{ClassesWritten, ClassesCall, SuspectsWritten, SuspectsCall}
 
 -- ---- classes
 
 module _ (bytes : List ℕ) (tb : Table) (lent : tb ≡ lentTable bytes) (d : List ℕ) (r : Bool) (t : Tested tb r) where
   pub classes-20 : not r ≡ true → ClassesCall bytes d 20 d
-  unfolding classesOf roomNumber packed
+  unfolding classesOf
   classes-20 q =
-      let w : ClassesWritten (columns tb) (classesOf tb) d 20 d = record { is = rw (rejected tb r t q) refl; buffer = rw (rejected tb r t q) refl } in
+      let w : ClassesWritten (columns tb) (classesOf tb) d 20 d = rw (rejected tb r t q) (call-refused 20 0 _ d refl) in
       rw (← lent) w
 
   module _ (q : not r ≡ false) (a : Classes) (ea : a ≡ classesOf tb) where

@@ -1,10 +1,6 @@
-pub mod Fill
-pub mod Numbers
-pub mod Given
 pub mod Goals
 pub mod Pins
 pub mod Buffers
 pub mod Laid
 pub mod Marked
-pub mod Written
-pub mod Round
+pub mod Read

@@ -16,9 +16,10 @@ use Rattle.cover.proofs.Pins.{set-aside-pins, essential-pins}
 use Rattle.classes.proofs.Pins.{undetectable-pins}
 use Rattle.choice.proofs.Pins.{choose-pins}
 use Rattle.report.proofs.Pins.{text-one}
-use Rattle.tockbronze.specs.Calls.{ForGoal, GivesAside, GivesEssential, GivesChoice, AsideCall, EssentialCall, ChooseCall, CallWrites, CallCounts, ClassesCall, DictionaryCall, SheetCall, SuspectsCall, ReportCall, MarksWritten, UndetectableCall, ReadWritten, ReadCall}
-use Rattle.tockbronze.specs.Flat.{lentTable, bytesOf}
-use Rattle.tockbronze.specs.Packed.{packed, goalOf}
+use Rattle.flat.specs.Flat.{lentTable, bytesOf}
+use Rattle.flat.specs.Packed.{packed, goalOf}
+use Rattle.flat.specs.Writes.{CallWrites}
+use Rattle.tockbronze.specs.Calls.{ForGoal, GivesAside, GivesEssential, GivesChoice, AsideCall, EssentialCall, ChooseCall, CallCounts, ClassesCall, DictionaryCall, SheetCall, SuspectsCall, ReportCall, MarksWritten, UndetectableCall, ReadWritten, ReadCall}
 
 -- where the library's own call leaves one answer, the call for a goal leaves one number
 for-goal-pins : (Given : Table → Goal → Chosen → Type 0)

@@ -5,9 +5,9 @@ use mathlib.Core.Logic.{_⊎_}
 use mathlib.Core.Path.{_≡_}
 use Prim.Native.Nat.{ℕ, _≤_, _<_}
 use lib.ListN.{length, take}
-use Rattle.folds.specs.Fold.{listed, onto, total}
+use Rattle.folds.specs.Fold.{listed, total}
 use Rattle.sets.specs.Sets.{bit}
-use Rattle.lent.specs.Lent.{accept, setNumber, roomNumber}
+use Rattle.lent.specs.Lent.{setNumber}
 use Rattle.table.specs.Answers.{numberOf, verdictNumber, chosenNumber, chosenSet, faultsNumber, faultsSet}
 use Rattle.table.specs.Table.{columns}
 use Rattle.table.specs.declared.Chosen.{Chosen}
@@ -28,8 +28,9 @@ use Rattle.suspects.specs.Suspects.{suspectsOf}
 use Rattle.dictionary.specs.Dictionary.{dictionaryOf}
 use Rattle.witness.specs.Witness.{sheetOf}
 use Rattle.report.specs.Answer.{IsText}
-use Rattle.tockbronze.specs.Flat.{lentTable, bytesOf}
-use Rattle.tockbronze.specs.Packed.{packed, goalOf, unknownGoal}
+use Rattle.flat.specs.Flat.{lentTable, bytesOf}
+use Rattle.flat.specs.Packed.{packed, goalOf, unknownGoal}
+use Rattle.flat.specs.Writes.{CallWrites}
 
 -- r is the answer that the library's own call gives, as one number
 pub record FromChosen (Given : Chosen → Type 0) (r : ℕ) : Type 0 where
@@ -62,12 +63,6 @@ abbrev pub ChooseCall : List ℕ → ℕ → ℕ → ℕ → Type 0
 ChooseCall bytes goal cap r = ForGoal (GivesChoice cap) bytes goal r
 
 -- ---- calls that write to a lent buffer
-
--- an answer written to the front of a buffer that held `entry`, with a value; 24 where the buffer is too short, after `earlier`.
--- Refused: the value is 0 and the buffer stays.
-pub record CallWrites (earlier value : ℕ) (answer entry : List ℕ) (r : ℕ) (exit : List ℕ) : Type 0 where
-  pub is : r ≡ packed (roomNumber earlier answer entry) (accept (roomNumber earlier answer entry) value 0)
-  pub buffer : exit ≡ accept (roomNumber earlier answer entry) (onto answer entry) entry
 
 -- the value is the count of the bytes that are written
 abbrev pub CallCounts : ℕ → List ℕ → List ℕ → ℕ → List ℕ → Type 0

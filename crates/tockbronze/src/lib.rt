@@ -1,19 +1,18 @@
 // The calls for programs in other languages, on numbers and bytes. A table is lent as 1,586 bytes; an answer is one number, the
 // refusal in its low 8 bits and the value above them.
 ghost use Rattle.tockbronze.specs.Calls.{AsideCall, EssentialCall, ChooseCall, DictionaryCall, SheetCall, ReportCall, ClassesCall, SuspectsCall, UndetectableCall, ReadCall};
+use flat::inner::answers;
+use flat::inner::bytes;
+use flat::inner::marks;
+use flat::inner::tables;
 use table::Verdict;
-
-mod answers;
-mod bytes;
-mod flat;
-mod marks;
 
 // The tests that are set aside for the goal.
 #[no_mangle]
 pub extern "C" fn tockbronze_set_aside(table: &[u8], goal: u64) -> u64
     ensures { λ r. ⌜ AsideCall (now (table .entry)) goal r ⌝ }
 {
-    let given = flat::table_in(table);
+    let given = tables::table_in(table);
     if goal > 1 {
         return answers::unknown_goal(given);
     }
@@ -25,7 +24,7 @@ pub extern "C" fn tockbronze_set_aside(table: &[u8], goal: u64) -> u64
 pub extern "C" fn tockbronze_essential(table: &[u8], goal: u64) -> u64
     ensures { λ r. ⌜ EssentialCall (now (table .entry)) goal r ⌝ }
 {
-    let given = flat::table_in(table);
+    let given = tables::table_in(table);
     if goal > 1 {
         return answers::unknown_goal(given);
     }
@@ -37,7 +36,7 @@ pub extern "C" fn tockbronze_essential(table: &[u8], goal: u64) -> u64
 pub extern "C" fn tockbronze_choose(table: &[u8], goal: u64, cap: u64) -> u64
     ensures { λ r. ⌜ ChooseCall (now (table .entry)) goal cap r ⌝ }
 {
-    let given = flat::table_in(table);
+    let given = tables::table_in(table);
     if goal > 1 {
         return answers::unknown_goal(given);
     }
@@ -49,7 +48,8 @@ pub extern "C" fn tockbronze_choose(table: &[u8], goal: u64, cap: u64) -> u64
 pub extern "C" fn tockbronze_dictionary(table: &[u8], set: u32, buf: &mut [u8]) -> u64
     ensures { λ r. ⌜ DictionaryCall (now (table .entry)) set (now (buf .entry)) r (now (buf .exit)) ⌝ }
 {
-    answers::of_written(dictionary::dictionary(flat::table_in(table), set, buf))
+    let given = tables::table_in(table);
+    answers::of_written(dictionary::dictionary(given, set, buf))
 }
 
 // Writes the witness sheet of the table under the set.
@@ -57,7 +57,8 @@ pub extern "C" fn tockbronze_dictionary(table: &[u8], set: u32, buf: &mut [u8]) 
 pub extern "C" fn tockbronze_witness_sheet(table: &[u8], set: u32, buf: &mut [u8]) -> u64
     ensures { λ r. ⌜ SheetCall (now (table .entry)) set (now (buf .entry)) r (now (buf .exit)) ⌝ }
 {
-    answers::of_written(witness::witness_sheet(flat::table_in(table), set, buf))
+    let given = tables::table_in(table);
+    answers::of_written(witness::witness_sheet(given, set, buf))
 }
 
 // Writes the text of the book.
@@ -73,7 +74,7 @@ pub extern "C" fn tockbronze_report(book: &[u8], text: &mut [u8]) -> u64
 pub extern "C" fn tockbronze_classes(table: &[u8], of: &mut [u8]) -> u64
     ensures { λ r. ⌜ ClassesCall (now (table .entry)) (now (of .entry)) r (now (of .exit)) ⌝ }
 {
-    let given = flat::table_in(table);
+    let given = tables::table_in(table);
     if !table::well_formed(given) {
         return 20;
     }
@@ -92,7 +93,7 @@ pub extern "C" fn tockbronze_suspects(
 ) -> u64
     ensures { λ r. ⌜ SuspectsCall (now (table .entry)) set (now (outputs .entry)) (now (columns .entry)) r (now (columns .exit)) ⌝ }
 {
-    let answer = suspects::suspects_of(flat::table_in(table), set, outputs);
+    let answer = suspects::suspects_of(tables::table_in(table), set, outputs);
     let verdict = answer.verdict;
     let found = answer.columns;
     let count = answer.count;
@@ -107,7 +108,7 @@ pub extern "C" fn tockbronze_suspects(
 pub extern "C" fn tockbronze_undetectable(table: &[u8], faults: &mut [u8]) -> u64
     ensures { λ r. ⌜ UndetectableCall (now (table .entry)) (now (faults .entry)) r (now (faults .exit)) ⌝ }
 {
-    let given = flat::table_in(table);
+    let given = tables::table_in(table);
     if !table::well_formed(given) {
         return 20;
     }

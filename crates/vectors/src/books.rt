@@ -3,11 +3,11 @@ use crate::input;
 use crate::input::wide;
 use crate::show;
 use crate::show::mix;
-use book::Outcome;
-use book::Record;
-use book::SoFar;
-use book::Stage;
-use book::Stepped;
+use records::Outcome;
+use records::Record;
+use records::SoFar;
+use records::Stage;
+use records::Stepped;
 use table::Reading;
 use table::Table;
 

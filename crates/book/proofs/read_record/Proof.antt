@@ -1,8 +1,8 @@
 use borrow.Author.Needs.{needs}
-use Rattle.book.proofs.Judged.{judges}
+use Rattle.records.proofs.Judged.{judges}
 use Rattle.book.proofs.Sounds.{sound-counts}
 use Rattle.book.specs.Sound.{callRule, recordAt}
-use Rattle.book.specs.Step.{stepAt}
+use Rattle.records.specs.Step.{stepAt}
 use Rattle.book.proofs.read_record.Statement.{statement}
 use Rattle.book.proofs.read_record.Tie as tie
 

@@ -1,6 +1,6 @@
 use borrow.Author.Needs.{needs}
 use Rattle.cover.proofs.Fill.{filled-fits, filled-part}
-use Rattle.choice.proofs.Root.{node-root, row-fits, row-slice, sought-by}
+use Rattle.choice.proofs.Root.{row-fits, row-slice, sought-by}
 use Rattle.choice.proofs.chosen_for.Statement.{statement}
 use Rattle.choice.proofs.chosen_for.Tie as tie
 
@@ -28,14 +28,14 @@ few-first-requires c κs = search needs
 array-share-prefix-list-2 : tie.Need-array-share-prefix-list-2
 array-share-prefix-list-2 c = row-fits _ _ _ (c .before .before .before .before .before .before .masks-of .ensures) _ (c .before .few-first .ensures)
 
-slice-aggregate-best : tie.Need-slice-aggregate-best
-slice-aggregate-best c = row-slice _ _ _ (c .before .before .before .before .before .before .before .masks-of .ensures) _ (c .before .before .few-first .ensures)
+slice-aggregate-lightest : tie.Need-slice-aggregate-lightest
+slice-aggregate-lightest c = row-slice _ _ _ (c .before .before .before .before .before .before .before .masks-of .ensures) _ (c .before .before .few-first .ensures)
 
-best-requires : tie.Need-best-requires
-best-requires c κs = (node-root _ _, search needs)
+lightest-requires : tie.Need-lightest-requires
+lightest-requires c κs = search needs
 
 returns : tie.Need-returns
-returns c = sought-by _ (c .before .before .before .before .before .before .before .before .before .pre) _ _ (c .before .before .before .before .before .before .before .before .masks-of .ensures) _ (c .before .before .before .few-first .ensures) _ (c .before .before .before .before .before .kept-tests .ensures) (c .best .result) (c .best .ensures)
+returns c = sought-by _ (c .before .before .before .before .before .before .before .before .before .pre) _ _ (c .before .before .before .before .before .before .before .before .masks-of .ensures) _ (c .before .before .before .few-first .ensures) _ (c .before .before .before .before .before .kept-tests .ensures) (c .lightest .result) (c .lightest .ensures)
 
 pub chosen-for-spec : {M : Type 1} → statement M
 chosen-for-spec =
@@ -49,6 +49,6 @@ chosen-for-spec =
     slice-aggregate-few-first
     few-first-requires
     array-share-prefix-list-2
-    slice-aggregate-best
-    best-requires
+    slice-aggregate-lightest
+    lightest-requires
     returns)

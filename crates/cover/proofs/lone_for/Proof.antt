@@ -1,6 +1,5 @@
 use borrow.Author.Needs.{needs}
-use Rattle.cover.specs.Answer.{loneSet}
-use Rattle.cover.proofs.Fill.{filled-take, filled-fits, filled-part}
+use Rattle.cover.proofs.Fill.{filled-fits, filled-lone, filled-part}
 use Rattle.cover.proofs.lone_for.Statement.{statement}
 use Rattle.cover.proofs.lone_for.Tie as tie
 
@@ -17,8 +16,7 @@ lone-tests-requires : tie.Need-lone-tests-requires
 lone-tests-requires c κs = search needs
 
 returns : tie.Need-returns
-unfolding loneSet
-returns c = rw (← filled-take _ _ _ (c .before .before .before .masks-of .ensures)) (c .lone-tests .ensures)
+returns c = search filled-lone
 
 pub lone-for-spec : {M : Type 1} → statement M
 lone-for-spec =

@@ -29,8 +29,8 @@ use denote.Exit.{yes}
 use denote.Triple.Statement.{Contract, Triple}
 use Rattle.book.specs.Sound.{recordAt}
 use Rattle.held_book.specs.declared.Reader.{Reader}
-use Rattle.book.specs.declared.Stepped.{Stepped}
-use Rattle.book.specs.declared.SoFar.{SoFar}
+use Rattle.records.specs.declared.Stepped.{Stepped}
+use Rattle.records.specs.declared.SoFar.{SoFar}
 use Rattle.book.proofs.read_record.Symbol.{name as #book·read-record}
 use Rattle.held_book.proofs.Walks.{B, D, L, answers, frames, proved}
 use Rattle.held_book.proofs.next.Key.{name as #held-book·next}
@@ -50,10 +50,10 @@ use sound.WpLaws.{FmC}
 use denote.Struct.Laws as LL
 use Rattle.held_book.proofs.Reader as T
 use Rattle.held_book.proofs.Reader.Laws as T′
-use Rattle.book.proofs.Stepped as S
-use Rattle.book.proofs.Stepped.Laws as S′
-use Rattle.book.proofs.SoFar as P
-use Rattle.book.proofs.SoFar.Laws as P′
+use Rattle.records.proofs.Stepped as S
+use Rattle.records.proofs.Stepped.Laws as S′
+use Rattle.records.proofs.SoFar as P
+use Rattle.records.proofs.SoFar.Laws as P′
 use Rattle.book.proofs.read_record as read-record
 use Rattle.book.proofs.read_record.Symbol as record-def
 use Rattle.book.proofs.read_record.Met as record-thm

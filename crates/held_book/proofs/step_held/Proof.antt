@@ -26,8 +26,8 @@ use denote.Exit.{yes}
 use denote.Triple.Statement.{Contract, Triple}
 use Rattle.book.specs.Sound.{recordAt}
 use Rattle.held_book.specs.declared.Reader.{Reader}
-use Rattle.book.specs.declared.Stepped.{Stepped}
-use Rattle.book.specs.declared.SoFar.{SoFar}
+use Rattle.records.specs.declared.Stepped.{Stepped}
+use Rattle.records.specs.declared.SoFar.{SoFar}
 use Rattle.held_book.proofs.hold.Symbol.{name as #held-book·hold}
 use Rattle.held_book.proofs.moved.Symbol.{name as #held-book·moved}
 use Rattle.held_book.proofs.next.Symbol.{name as #held-book·next}
@@ -49,10 +49,10 @@ use sound.WpLaws.{FmC}
 use denote.Struct.Laws as LL
 use Rattle.held_book.proofs.Reader as T
 use Rattle.held_book.proofs.Reader.Laws as T′
-use Rattle.book.proofs.Stepped as S
-use Rattle.book.proofs.Stepped.Laws as S′
-use Rattle.book.proofs.SoFar as P
-use Rattle.book.proofs.SoFar.Laws as P′
+use Rattle.records.proofs.Stepped as S
+use Rattle.records.proofs.Stepped.Laws as S′
+use Rattle.records.proofs.SoFar as P
+use Rattle.records.proofs.SoFar.Laws as P′
 use Rattle.held_book.proofs.hold as hold
 use Rattle.held_book.proofs.hold.Symbol as hold-def
 use Rattle.held_book.proofs.hold.Met as hold-thm

@@ -1,5 +1,6 @@
 use borrow.Author.Needs.{needs}
-use Rattle.table.proofs.Formed.{admits}
+use native.Mathlib.Omega.{arith}
+use Rattle.table.proofs.Formed.{well}
 use Rattle.tockbronze.proofs.Laid.{classes-20, few-counted, classes-0}
 use Rattle.tockbronze.proofs.tockbronze_classes.Statement.{statement}
 use Rattle.tockbronze.proofs.tockbronze_classes.Tie as tie
@@ -17,10 +18,11 @@ classify-requires : tie.Need-classify-requires
 classify-requires c κs = search needs
 
 add-laid : tie.Need-add-laid
-add-laid c = search admits
+add-laid c = omega (arith, well _ _ (c .before .before .before .before .well-formed .ensures) (c .before .before .before .if1 .left) .faults-fit)
 
 laid-requires : tie.Need-laid-requires
-laid-requires c κs = (search admits, search few-counted)
+laid-requires c κs =
+    (omega (arith, well _ _ (c .before .before .before .before .before .well-formed .ensures) (c .before .before .before .before .if1 .left) .faults-fit), search (needs, few-counted))
 
 same-length : tie.Need-same-length
 same-length c = search needs

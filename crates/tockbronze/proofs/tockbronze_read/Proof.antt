@@ -1,5 +1,5 @@
 use borrow.Author.Needs.{needs}
-use Rattle.tockbronze.proofs.Written.{near, few-tests, few-faults, read-accepted, read-refused}
+use Rattle.tockbronze.proofs.Read.{near, few-tests, few-faults, read-accepted, read-refused}
 use Rattle.tockbronze.proofs.tockbronze_read.Statement.{statement}
 use Rattle.tockbronze.proofs.tockbronze_read.Tie as tie
 
@@ -10,13 +10,13 @@ enum-told : tie.Need-enum-told
 enum-told c = search needs
 
 written-requires : tie.Need-written-requires
-written-requires c κs = (search few-tests, search few-faults, search near)
+written-requires c κs = (search few-tests, search few-faults, search (needs, near))
 
 enum-known-verdict : tie.Need-enum-known-verdict
 enum-known-verdict c = search needs
 
 at-place-requires : tie.Need-at-place-requires
-at-place-requires c κs = search near
+at-place-requires c κs = search (needs, near)
 
 same-length : tie.Need-same-length
 same-length c = search needs

@@ -13,7 +13,7 @@ enum-told : tie.Need-enum-told
 enum-told c = search needs
 
 laid-requires : tie.Need-laid-requires
-laid-requires c κs = (search few-found, search few-found)
+laid-requires c κs = (search (needs, few-found), search (needs, few-found))
 
 enum-known-verdict : tie.Need-enum-known-verdict
 enum-known-verdict c = search needs

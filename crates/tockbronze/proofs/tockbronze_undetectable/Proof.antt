@@ -1,5 +1,6 @@
 use borrow.Author.Needs.{needs}
-use Rattle.classes.proofs.Calls.{few-faults}
+use native.Mathlib.Omega.{arith}
+use Rattle.table.proofs.Formed.{well}
 use Rattle.tockbronze.proofs.Marked.{call-20, call-0}
 use Rattle.tockbronze.proofs.tockbronze_undetectable.Statement.{statement}
 use Rattle.tockbronze.proofs.tockbronze_undetectable.Tie as tie
@@ -17,7 +18,7 @@ undetectable-requires : tie.Need-undetectable-requires
 undetectable-requires c κs = search needs
 
 marked-requires : tie.Need-marked-requires
-marked-requires c κs = search few-faults
+marked-requires c κs = let w = well _ _ (c .before .before .before .well-formed .ensures) (c .before .before .if1 .left) in omega (arith, w .tests-fit, w .faults-fit)
 
 same-length : tie.Need-same-length
 same-length c = search needs

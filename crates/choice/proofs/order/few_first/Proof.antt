@@ -16,8 +16,14 @@ abbrev μ-loop : tie.MeasureT-loop
 loop-holds : tie.Need-loop-holds Inv-loop μ-loop
 loop-holds c = (search needs, search needs, order-same _)
 
+same-length : tie.Need-same-length Inv-loop μ-loop
+same-length c = c .before .before .loop .inv .2 .long
+
+returns : tie.Need-returns Inv-loop μ-loop
+returns c = c .before .before .loop .inv .2
+
 sized-first-requires : tie.Need-sized-first-requires Inv-loop μ-loop
-sized-first-requires c κs = omega (arith, c .before .before .loop .inv .2 .long)
+sized-first-requires c κs = omega (arith, c .before .before .before .loop .inv .2 .long)
 
 add-n : tie.Need-add-n Inv-loop μ-loop
 add-n c = search needs
@@ -27,17 +33,17 @@ loop-less c = search needs
 
 loop-again : tie.Need-loop-again Inv-loop μ-loop
 loop-again c =
-    let l = c .before .before .before .before .before .loop in (
+    let l = c .before .before .before .before .before .before .loop in (
       search needs,
       omega (arith, l .inv .2 .long, c .before .before .sized-first .ensures .0),
       order-then _ _ _ (l .inv .2) (c .before .before .sized-first .ensures .1),
     )
 
-same-length : tie.Need-same-length Inv-loop μ-loop
-same-length c = c .before .loop .inv .2 .long
+same-length-2 : tie.Need-same-length-2 Inv-loop μ-loop
+same-length-2 c = c .before .loop .inv .2 .long
 
-returns : tie.Need-returns Inv-loop μ-loop
-returns c = c .before .loop .inv .2
+returns-2 : tie.Need-returns-2 Inv-loop μ-loop
+returns-2 c = c .before .loop .inv .2
 
 pub few-first-spec : {M : Type 1} → statement M
 few-first-spec =
@@ -46,9 +52,11 @@ few-first-spec =
     Inv-loop
     μ-loop
     loop-holds
+    same-length
+    returns
     sized-first-requires
     add-n
     loop-less
     loop-again
-    same-length
-    returns)
+    same-length-2
+    returns-2)

@@ -2,6 +2,7 @@
 use mathlib.Core.Path.{_≡_, sym, _∙_}
 use Prim.Native.Nat.{ℕ, _+_, _-_, _^_, _<_}
 use native.Mathlib.Omega.{arith}
+use borrow.Author.Needs.{needs}
 use borrow.Author.Tests.{not-true, not-false}
 use borrow.Fn.Kinds.{In}
 use borrow.Fn.PlainCycle.{Measures, is, falls, and}
@@ -83,13 +84,13 @@ is-kept : (t : ℕ) (c : best-lts.Else5 (callees t) (best-at t) best.Post) → b
 is-kept t c = has-bit _ _ (sym (c .before .has .ensures) ∙ not-false _ (c .if5 .left))
 
 best-returns : (t : ℕ) → best-lts.Need-returns (callees t) (best-at t) best.Post
-best-returns t c = tree.best-full _ _ _ _ _ _ (c .before .before .pre .1 .0) _ _ (c .if1 .taken)
+best-returns t c = tree.best-full _ _ _ _ _ _ (c .before .before .pre .1 .0) _ _ (omega (arith, c .if1 .taken))
 
 best-first-unhit-requires : (t : ℕ) → best-lts.Need-first-unhit-requires (callees t) (best-at t) best.Post
 best-first-unhit-requires t c κs = c .before .before .pre .1 .0 .start
 
 best-returns-2 : (t : ℕ) → best-lts.Need-returns-2 (callees t) (best-at t) best.Post
-best-returns-2 t c = tree.best-hit _ _ _ _ _ _ (c .before .before .before .before .pre .1 .0) _ (c .before .first-unhit .ensures) one-positive _ _ (c .if2 .taken) (c .before .before .if1 .left)
+best-returns-2 t c = tree.best-hit _ _ _ _ _ _ (c .before .before .before .before .pre .1 .0) _ (c .before .first-unhit .ensures) one-positive _ _ (c .if2 .taken) (omega (arith, c .before .before .if1 .left))
 
 best-returns-3 : (t : ℕ) → best-lts.Need-returns-3 (callees t) (best-at t) best.Post
 best-returns-3 t c = tree.best-end _ _ _ _ _ _ _ (missed t (c .before)) (c .before .before .first-unhit .ensures .stopped (missed t (c .before))) (c .if3 .taken)
@@ -104,7 +105,7 @@ best-still-needed-requires : (t : ℕ) → best-lts.Need-still-needed-requires (
 best-still-needed-requires t c κs = (deep t c, c .before .before .before .before .before .pre .1 .0 .decided, c .before .before .first-unhit .ensures .high, omega (arith, c .before .before .before .before .before .pre .1 .1))
 
 best-returns-4 : (t : ℕ) → best-lts.Need-returns-4 (callees t) (best-at t) best.Post
-best-returns-4 t c = tree.best-crowded _ _ _ _ _ _ (c .before .before .before .before .before .before .before .pre .1 .0) _ _ _ (c .before .before .before .before .before .if1 .left) (c .before .still-needed .ensures) (c .if4 .taken)
+best-returns-4 t c = tree.best-crowded _ _ _ _ _ _ (c .before .before .before .before .before .before .before .pre .1 .0) _ _ _ (omega (arith, c .before .before .before .before .before .if1 .left)) (c .before .still-needed .ensures) (omega (arith, c .if4 .taken))
 
 best-has-requires : (t : ℕ) → best-lts.Need-has-requires (callees t) (best-at t) best.Post
 best-has-requires t c κs = omega (arith, deep t (c .before .before))
@@ -155,10 +156,9 @@ best-or-else-requires t c κs = tt
 best-returns-6 : (t : ℕ) → best-lts.Need-returns-6 (callees t) (best-at t) best.Post
 best-returns-6 t c =
     let a = c .before .before .before .before .before .before .before .before .before .before .before .before .before .before .before .args in
-    rw (c .or-else .ensures)
-    (tree.best-join one (a .masks .now) _ _ _ (c .before .before .before .before .before .before .before .before .before .before .before .before .before .before .before .pre .1 .0 .decided) (a .limit) (c .before .before .before .best2 .result) (c .before .best3 .result) (is-kept t (c .before .before .before .before .before .before))
+    tree.best-joined one (a .masks .now) _ _ _ (c .before .before .before .before .before .before .before .before .before .before .before .before .before .before .before .pre .1 .0 .decided) (a .limit) (c .before .before .before .best2 .result) (c .before .best3 .result) (c .or-else .result) (search needs) (is-kept t (c .before .before .before .before .before .before))
     (rw (c .before .before .before .before .before .with-test .ensures, with-in) at (c .before .before .before .best2 .ensures))
-    (rw (c .before .before .limit-after .ensures) at (c .before .best3 .ensures)))
+    (rw (c .before .before .limit-after .ensures) at (c .before .best3 .ensures))
 
 pub +best-spec : {M : Type 1} → statement M
 +best-spec = close μ-best λ t. best-lts.spec (callees t)

@@ -14,7 +14,7 @@ add-t8 : tie.Need-add-t8
 add-t8 c = search needs
 
 returns-3 : tie.Need-returns-3
-returns-3 c = inr (search needs, search needs, refl, refl)
+returns-3 c = inr (search needs, search needs, search needs, search needs)
 
 pub with-mask-spec : {M : Type 1} → statement M
 with-mask-spec = tie.close (tie.spec returns returns-2 add-t8 returns-3)

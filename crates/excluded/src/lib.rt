@@ -1,0 +1,1 @@
+// What follows from the promises of the calls: laws in proofs/. No code.

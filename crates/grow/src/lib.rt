@@ -1,0 +1,2 @@
+// A table with one more test, fault or response.
+pub mod inner;
