@@ -1,11 +1,11 @@
 -- "Its book has 193 bytes." Assumes nothing.
 use mathlib.Core.Path.{◌≡◌, refl}
 use lib.ListN.{length}
-use Rattle.adder.specs.Adder.{adderOutput, adderTable, lineLabel, noLabels, rowFilled, rowsFilled, stuckLabel}
+use Rattle.adder.specs.Adder.{adderOutput, adder_table, line_label, no_labels, row_filled, rows_filled, stuck_label}
 use Rattle.book.specs.BookOf.{bookOf, faultBytes, responseBytes, responsesOf, testBytes}
 use Rattle.folds.specs.Fold.{always, joined, onto, single}
 use Rattle.table.specs.Table.{agrees, cell_at, place_of, separates}
 
-pub adder-book : length (bookOf adderTable) ≡ 193
-unfolding bookOf testBytes faultBytes responsesOf responseBytes separates agrees adderTable rowsFilled rowFilled adderOutput lineLabel stuckLabel noLabels onto joined single always cell_at place_of
-adder-book = refl
+pub adder_book : length (bookOf adder_table) ≡ 193
+unfolding bookOf testBytes faultBytes responsesOf responseBytes separates agrees adder_table rows_filled row_filled adderOutput line_label stuck_label no_labels onto joined single always cell_at place_of
+adder_book = refl

@@ -1,7 +1,7 @@
 -- The promise of `full_adder` leaves one table. Assumes nothing.
 use mathlib.Core.Path.{◌≡◌, sym, ◌∙◌}
-use Rattle.adder.specs.Adder.{adderTable}
+use Rattle.adder.specs.Adder.{adder_table}
 use Rattle.table.specs.declared.Table.{Table}
 
-pub full-adder-pins : (r₁ r₂ : Table) → r₁ ≡ adderTable → r₂ ≡ adderTable → r₁ ≡ r₂
-full-adder-pins r₁ r₂ a b = a ∙ sym b
+pub full_adder_pins : (r₁ r₂ : Table) → r₁ ≡ adder_table → r₂ ≡ adder_table → r₁ ≡ r₂
+full_adder_pins r₁ r₂ a b = a ∙ sym b

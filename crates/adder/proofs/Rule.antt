@@ -5,31 +5,31 @@ use mathlib.Core.Path.{◌≡◌, refl}
 use Prim.Native.Nat.{ℕ, ◌<◌}
 use borrow.Author.Tests.{eqb-true}
 use lib.Dec.{eqb}
-use Rattle.adder.specs.Adder.{adderOutput, adderTable, lineLabel, noLabels, rowFilled, rowsFilled, stuckLabel}
+use Rattle.adder.specs.Adder.{adderOutput, adder_table, line_label, no_labels, row_filled, rows_filled, stuck_label}
 use Rattle.folds.specs.Fold.{always, every, joined, onto, single}
-use Rattle.folds.proofs.Every.{every-at}
+use Rattle.folds.proofs.Every.{every_at}
 use Rattle.table.proofs.Formed.{formed}
-use Rattle.table.specs.Table.{cell_at, outputAt, place_of}
-use Rattle.table.specs.Form.{cellRight, labelRight, newLabel, otherLabel, rowRight, wellFormed}
+use Rattle.table.specs.Table.{cell_at, output_at, place_of}
+use Rattle.table.specs.Form.{cell_right, label_right, new_label, other_label, row_right, well_formed}
 use Rattle.table.specs.WellFormed.{WellFormed}
 
-passes : wellFormed adderTable ≡ true
-unfolding wellFormed labelRight newLabel otherLabel rowRight cellRight every cell_at place_of adderTable rowsFilled rowFilled adderOutput lineLabel stuckLabel noLabels onto joined single always
+passes : well_formed adder_table ≡ true
+unfolding well_formed label_right new_label other_label row_right cell_right every cell_at place_of adder_table rows_filled row_filled adderOutput line_label stuck_label no_labels onto joined single always
 passes = refl
 
-pub adder-formed : WellFormed adderTable
-adder-formed = formed adderTable passes
+pub adder_formed : WellFormed adder_table
+adder_formed = formed adder_table passes
 
 right : ℕ → ℕ → Bool
-right t c = eqb (outputAt adderTable t c) (adderOutput t c)
+right t c = eqb (output_at adder_table t c) (adderOutput t c)
 
-right-row : ℕ → Bool
-right-row t = every (right t) 11
+right_row : ℕ → Bool
+right_row t = every (right t) 11
 
-all_right : every right-row 8 ≡ true
-unfolding right-row right every cell_at place_of adderTable rowsFilled rowFilled adderOutput lineLabel stuckLabel
+all_right : every right_row 8 ≡ true
+unfolding right_row right every cell_at place_of adder_table rows_filled row_filled adderOutput line_label stuck_label
 all_right = refl
 
-pub adder-cell : (t c : ℕ) → t < 8 → c < 11 → outputAt adderTable t c ≡ adderOutput t c
-unfolding right-row right
-adder-cell t c h k = eqb-true _ _ (every-at (right t) 11 c (every-at right-row 8 t all_right h) k)
+pub adder_cell : (t c : ℕ) → t < 8 → c < 11 → output_at adder_table t c ≡ adderOutput t c
+unfolding right_row right
+adder_cell t c h k = eqb-true _ _ (every_at (right t) 11 c (every_at right_row 8 t all_right h) k)

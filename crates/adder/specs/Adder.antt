@@ -2,7 +2,7 @@
 -- Assumes nothing.
 use Rattle.std.specs.Prelude.{List, ℕ, zero, suc, ◌+◌, ◌-◌, ◌*◌, ◌/◌, ◌%◌, eqb, ltb, set, replicate}
 use Rattle.folds.specs.Fold.{whether, listed, onto}
-use Rattle.table.specs.Table.{place_of, emptyTable, tableWith}
+use Rattle.table.specs.Table.{place_of, empty_table, table_with}
 use Rattle.table.specs.declared.Table.{Table}
 
 abbrev xor : ℕ → ℕ → ℕ
@@ -15,16 +15,16 @@ abbrev or : ℕ → ℕ → ℕ
 or a b = a + b - a * b
 
 -- "Faults in book order: lines 1 to 5 stuck at 1, then lines 1 to 5 stuck at 0."
-unfoldable pub lineLabel : ℕ → ℕ
-lineLabel f = f % 5 + 1
+unfoldable pub line_label : ℕ → ℕ
+line_label f = f % 5 + 1
 
-unfoldable pub stuckLabel : ℕ → ℕ
-stuckLabel f = whether (ltb f 5) 1 0
+unfoldable pub stuck_label : ℕ → ℕ
+stuck_label f = whether (ltb f 5) 1 0
 
 -- what a line carries in a column where its gate gives v: in column f + 1 the line that fault f names is held at its stuck value
 abbrev held : ℕ → ℕ → ℕ → ℕ
 held zero line v = v
-held (suc f) line v = whether (eqb line (lineLabel f)) (stuckLabel f) v
+held (suc f) line v = whether (eqb line (line_label f)) (stuck_label f) v
 
 module _ (t c : ℕ) where
   -- "Test t is X, Y, carry in as a three-bit number, X highest."
@@ -61,23 +61,23 @@ module _ (t c : ℕ) where
 -- ---- the table
 
 -- the cells with f t c for each column c below n
-unfoldable pub rowFilled : (ℕ → ℕ → ℕ) → ℕ → ℕ → List ℕ → List ℕ
-rowFilled f t zero cells = cells
-rowFilled f t (suc n) cells = set (rowFilled f t n cells) (place_of t n) (f t n)
+unfoldable pub row_filled : (ℕ → ℕ → ℕ) → ℕ → ℕ → List ℕ → List ℕ
+row_filled f t zero cells = cells
+row_filled f t (suc n) cells = set (row_filled f t n cells) (place_of t n) (f t n)
 
 -- no cell is used, and then f t c in each of the 11 columns for each test t below n
-unfoldable pub rowsFilled : (ℕ → ℕ → ℕ) → ℕ → List ℕ
-rowsFilled f zero = replicate 1464 0
-rowsFilled f (suc n) = rowFilled f n 11 (rowsFilled f n)
+unfoldable pub rows_filled : (ℕ → ℕ → ℕ) → ℕ → List ℕ
+rows_filled f zero = replicate 1464 0
+rows_filled f (suc n) = row_filled f n 11 (rows_filled f n)
 
-unfoldable pub noLabels : List ℕ
-noLabels = replicate 60 0
+unfoldable pub no_labels : List ℕ
+no_labels = replicate 60 0
 
 -- 8 tests, 10 faults, every used cell by the gates, the rest zero
-unfoldable pub adderTable : Table
-adderTable =
-    tableWith emptyTable 8 10 (rowsFilled adderOutput 8)
-    (onto (listed lineLabel 10) noLabels) (onto (listed stuckLabel 10) noLabels)
+unfoldable pub adder_table : Table
+adder_table =
+    table_with empty_table 8 10 (rows_filled adderOutput 8)
+    (onto (listed line_label 10) no_labels) (onto (listed stuck_label 10) no_labels)
 
 -- ---- the 36 responses: the cells that differ from the correct output, by fault, then by test
 

@@ -1,7 +1,7 @@
 // The full adder of document 004, Figure 1: its responses, built in, and its table.
 ghost use Rattle.std.specs.Prelude.{◌≡◌, ◌<◌, get_or};
-ghost use Rattle.adder.specs.Adder.{adderOutput, adderTable, lineLabel, rowFilled, rowsFilled, stuckLabel};
-ghost use Rattle.adder.specs.Filling.{responded, correctOutput, differing, nothing, same};
+ghost use Rattle.adder.specs.Adder.{adderOutput, adder_table, line_label, row_filled, rows_filled, stuck_label};
+ghost use Rattle.adder.specs.Filling.{responded, correct_output, differing, nothing, same};
 
 use table::Table;
 
@@ -67,13 +67,13 @@ fn nth_response(i: usize) -> Response
 
 fn line_label(f: usize) -> u8
     requires { f < 10 }
-    ensures { result ≡ lineLabel f }
+    ensures { result ≡ line_label f }
 {
     (f % 5 + 1) as u8
 }
 
 fn stuck_label(f: usize) -> u8
-    ensures { result ≡ stuckLabel f }
+    ensures { result ≡ stuck_label f }
 {
     if f < 5 { 1 } else { 0 }
 }
@@ -81,7 +81,7 @@ fn stuck_label(f: usize) -> u8
 // The cells with one output in every column of test t.
 fn row(cells: [u8; 1464], t: usize, output: u8) -> [u8; 1464]
     requires { t < 24 }
-    ensures { result ≡ rowFilled (same output) t 11 cells }
+    ensures { result ≡ row_filled (same output) t 11 cells }
 {
     let mut next = cells;
     let mut c = 0;
@@ -95,7 +95,7 @@ fn row(cells: [u8; 1464], t: usize, output: u8) -> [u8; 1464]
 
 // The correct outputs in every column.
 fn correct_cells() -> [u8; 1464]
-    ensures { result ≡ rowsFilled correctOutput 8 }
+    ensures { result ≡ rows_filled correct_output 8 }
 {
     let mut cells = [0; 1464];
     let mut t = 0;
@@ -124,7 +124,7 @@ fn adder_cells() -> [u8; 1464]
 }
 
 pub fn full_adder() -> Table
-    ensures { result ≡ adderTable }
+    ensures { result ≡ adder_table }
 {
     let mut lines = [0; 60];
     let mut stuck = [0; 60];

@@ -6,45 +6,45 @@ use Prim.Native.Nat.{ℕ}
 use native.Mathlib.Omega.{arith}
 use Rattle.table.specs.Answers.{number_of}
 use Rattle.table.specs.declared.Refusal.{Refusal}
-use Rattle.table.proofs.Answers.{number-bounds}
+use Rattle.table.proofs.Answers.{number_bounds}
 use Rattle.asks.specs.Asks.{Ask, Numbered}
 
 -- a call has one number
-pub numbered-one : (ks : List Ask) (m n : ℕ) → Numbered ks m → Numbered ks n → m ≡ n
-numbered-one [] m n a b = a ∙ sym b
-numbered-one (k ∷ ks) m n (inl (f, a)) (inl (g, b)) = a ∙ sym b
-numbered-one (k ∷ ks) m n (inl (f, a)) (inr (h, b)) = absurd (f h)
-numbered-one (k ∷ ks) m n (inr (h, a)) (inl (g, b)) = absurd (g h)
-numbered-one (k ∷ ks) m n (inr (h, a)) (inr (g, b)) = numbered-one ks m n a b
+pub numbered_one : (ks : List Ask) (m n : ℕ) → Numbered ks m → Numbered ks n → m ≡ n
+numbered_one [] m n a b = a ∙ sym b
+numbered_one (k ∷ ks) m n (inl (f, a)) (inl (g, b)) = a ∙ sym b
+numbered_one (k ∷ ks) m n (inl (f, a)) (inr (h, b)) = absurd (f h)
+numbered_one (k ∷ ks) m n (inr (h, a)) (inl (g, b)) = absurd (g h)
+numbered_one (k ∷ ks) m n (inr (h, a)) (inr (g, b)) = numbered_one ks m n a b
 
 -- what is refused stays refused, whatever is asked after it
-pub numbered-refused : (ks more : List Ask) (why : Refusal) → Numbered ks (number_of why) → Numbered (ks ++ more) (number_of why)
-numbered-refused [] more why a = absurd (omega (arith, number-bounds why))
-numbered-refused (k ∷ ks) more why (inl a) = inl a
-numbered-refused (k ∷ ks) more why (inr (h, a)) = inr (h, numbered-refused ks more why a)
+pub numbered_refused : (ks more : List Ask) (why : Refusal) → Numbered ks (number_of why) → Numbered (ks ++ more) (number_of why)
+numbered_refused [] more why a = absurd (omega (arith, number_bounds why))
+numbered_refused (k ∷ ks) more why (inl a) = inl a
+numbered_refused (k ∷ ks) more why (inr (h, a)) = inr (h, numbered_refused ks more why a)
 
 -- where nothing is refused, what is asked after it decides
-pub numbered-on : (ks more : List Ask) (n : ℕ) → Numbered ks 0 → Numbered more n → Numbered (ks ++ more) n
-numbered-on [] more n a b = b
-numbered-on (k ∷ ks) more n (inl (f, a)) b = absurd (omega (arith, number-bounds k.why))
-numbered-on (k ∷ ks) more n (inr (h, a)) b = inr (h, numbered-on ks more n a b)
+pub numbered_on : (ks more : List Ask) (n : ℕ) → Numbered ks 0 → Numbered more n → Numbered (ks ++ more) n
+numbered_on [] more n a b = b
+numbered_on (k ∷ ks) more n (inl (f, a)) b = absurd (omega (arith, number_bounds k.why))
+numbered_on (k ∷ ks) more n (inr (h, a)) b = inr (h, numbered_on ks more n a b)
 
 -- what is accepted passed what was asked first,
-pub numbered-first : (ks more : List Ask) → Numbered (ks ++ more) 0 → Numbered ks 0
-numbered-first [] more a = cc
-numbered-first (k ∷ ks) more (inl (f, a)) = absurd (omega (arith, number-bounds k.why))
-numbered-first (k ∷ ks) more (inr (h, a)) = inr (h, numbered-first ks more a)
+pub numbered_first : (ks more : List Ask) → Numbered (ks ++ more) 0 → Numbered ks 0
+numbered_first [] more a = cc
+numbered_first (k ∷ ks) more (inl (f, a)) = absurd (omega (arith, number_bounds k.why))
+numbered_first (k ∷ ks) more (inr (h, a)) = inr (h, numbered_first ks more a)
 
 -- and what was asked last
-pub numbered-last : (ks more : List Ask) → Numbered (ks ++ more) 0 → Numbered more 0
-numbered-last [] more a = a
-numbered-last (k ∷ ks) more (inl (f, a)) = absurd (omega (arith, number-bounds k.why))
-numbered-last (k ∷ ks) more (inr (h, a)) = numbered-last ks more a
+pub numbered_last : (ks more : List Ask) → Numbered (ks ++ more) 0 → Numbered more 0
+numbered_last [] more a = a
+numbered_last (k ∷ ks) more (inl (f, a)) = absurd (omega (arith, number_bounds k.why))
+numbered_last (k ∷ ks) more (inr (h, a)) = numbered_last ks more a
 
 -- the first that is asked holds of what is accepted
-pub numbered-holds : (k : Ask) (ks : List Ask) → Numbered (k ∷ ks) 0 → k.holds
-numbered-holds k ks (inl (f, a)) = absurd (omega (arith, number-bounds k.why))
-numbered-holds k ks (inr (h, a)) = h
+pub numbered_holds : (k : Ask) (ks : List Ask) → Numbered (k ∷ ks) 0 → k.holds
+numbered_holds k ks (inl (f, a)) = absurd (omega (arith, number_bounds k.why))
+numbered_holds k ks (inr (h, a)) = h
 
 -- what is asked last may be put otherwise
 pub numbered_more : (ks more more' : List Ask) (n : ℕ) → (Numbered more n → Numbered more' n) → Numbered (ks ++ more) n → Numbered (ks ++ more') n

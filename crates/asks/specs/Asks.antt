@@ -26,13 +26,13 @@ Numbered [] n = n ≡ 0
 Numbered (k ∷ ks) n = ((k.holds → ⊥) × (n ≡ number_of k.why)) ⊎ (k.holds × Numbered ks n)
 
 -- "20 | a call's table is not well formed"
-abbrev pub tableAsks : Table → List Ask
-tableAsks tb = asks NotWellFormed (WellFormed tb) ∷ []
+abbrev pub table_asks : Table → List Ask
+table_asks tb = asks NotWellFormed (WellFormed tb) ∷ []
 
 -- what every call that takes a goal asks first
-abbrev pub goalAsks : Table → Goal → List Ask
-goalAsks tb goal = tableAsks tb
+abbrev pub goal_asks : Table → Goal → List Ask
+goal_asks tb goal = table_asks tb
 
 -- "21 | a given set holds a test that the table lacks"
-abbrev pub setAsks : Table → ℕ → List Ask
-setAsks tb s = tableAsks tb ++ (asks UnknownTest (Within (TestOf tb) s) ∷ [])
+abbrev pub set_asks : Table → ℕ → List Ask
+set_asks tb s = table_asks tb ++ (asks UnknownTest (Within (TestOf tb) s) ∷ [])

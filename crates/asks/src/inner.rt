@@ -1,12 +1,12 @@
 // The first refusals of a call, in the paper's order.
-ghost use Rattle.asks.specs.Asks.{tableAsks, goalAsks, setAsks};
+ghost use Rattle.asks.specs.Asks.{table_asks, goal_asks, set_asks};
 ghost use Rattle.asks.specs.Asked.{Asked};
 
 use table::{Goal, Refusal, Table, Verdict};
 
 // 20.
 pub fn table_verdict(table: Table) -> Verdict
-    ensures { Asked (tableAsks table) result }
+    ensures { Asked (table_asks table) result }
 {
     if !table::well_formed(table) {
         return Verdict::Refused(Refusal::NotWellFormed);
@@ -16,14 +16,14 @@ pub fn table_verdict(table: Table) -> Verdict
 
 // 20.
 pub fn goal_verdict(table: Table, goal: Goal) -> Verdict
-    ensures { Asked (goalAsks table goal) result }
+    ensures { Asked (goal_asks table goal) result }
 {
     table_verdict(table)
 }
 
 // 20, then 21.
 pub fn set_verdict(table: Table, set: u32) -> Verdict
-    ensures { Asked (setAsks table set) result }
+    ensures { Asked (set_asks table set) result }
 {
     if !table::well_formed(table) {
         return Verdict::Refused(Refusal::NotWellFormed);

@@ -6,57 +6,57 @@ use borrow.Author.Tests.{lt-ltb, le-ltb, eq-eqb, ne_eqb, not-false}
 use lib.Dec.{eqb}
 use Rattle.folds.proofs.Bools.{both_left}
 use Rattle.table.specs.declared.Table.{Table}
-use Rattle.table.specs.Table.{outputAt, agrees, separates}
+use Rattle.table.specs.Table.{output_at, agrees, separates}
 use Rattle.table.specs.WellFormed.{Tested}
 use Rattle.table.proofs.Formed.{formed, accepted, rejected}
 use Rattle.records.specs.declared.SoFar.{SoFar}
 use Rattle.records.specs.declared.Stage.{Stage}
 use Rattle.records.specs.declared.Stage.TheVariants.{Tests, Faults, Responses}
 use Rattle.records.specs.Counts.{CountsFit}
-use Rattle.book.specs.Sound.{order_of, correctFrom, stageFits, soundTest}
+use Rattle.book.specs.Sound.{order_of, correct_from, stage_fits, sound_test}
 
 module _ (stage : Stage) (tb : Table) where
-  pub tests-only : stage ≡ Tests → eqb tb.faults 0 ≡ stageFits stage tb
+  pub tests-only : stage ≡ Tests → eqb tb.faults 0 ≡ stage_fits stage tb
   tests-only h = rw h
 
   module _ (h : stage ≡ Faults) where
-    pub faults-none : tb.faults ≡ 0 → false ≡ stageFits stage tb
+    pub faults-none : tb.faults ≡ 0 → false ≡ stage_fits stage tb
     faults-none e = rw (h, eq-eqb _ _ e)
 
-    pub faults-rest : (tb.faults ≡ 0 → ⊥) → (r : Bool) → r ≡ correctFrom tb.cells tb.tests tb.faults 0 → r ≡ stageFits stage tb
+    pub faults-rest : (tb.faults ≡ 0 → ⊥) → (r : Bool) → r ≡ correct_from tb.cells tb.tests tb.faults 0 → r ≡ stage_fits stage tb
     faults-rest n r e = rw (h, ne_eqb _ _ n) e
 
   module _ (f t : ℕ) (h : stage ≡ Responses f t) where
-    pub response-test : tb.tests ≤ t → false ≡ stageFits stage tb
+    pub response-test : tb.tests ≤ t → false ≡ stage_fits stage tb
     response-test l = rw (h, le-ltb _ _ l)
 
     module _ (k : t < tb.tests) where
-      pub response-fault : tb.faults ≤ f → false ≡ stageFits stage tb
+      pub response-fault : tb.faults ≤ f → false ≡ stage_fits stage tb
       response-fault l = rw (h, lt-ltb _ _ k, le-ltb _ _ l)
 
-      module _ (l : f < tb.faults) (same : Bool) (e : same ≡ agrees (outputAt tb) 0 (f + 1) t) where
-        pub response-same : same ≡ true → false ≡ stageFits stage tb
+      module _ (l : f < tb.faults) (same : Bool) (e : same ≡ agrees (output_at tb) 0 (f + 1) t) where
+        pub response-same : same ≡ true → false ≡ stage_fits stage tb
         unfolding separates
         response-same q = rw (h, lt-ltb _ _ k, lt-ltb _ _ l, ← e, q)
 
-        pub response-rest : same ≡ false → (r : Bool) → r ≡ correctFrom tb.cells tb.tests tb.faults (order_of f t + 1) → r ≡ stageFits stage tb
+        pub response-rest : same ≡ false → (r : Bool) → r ≡ correct_from tb.cells tb.tests tb.faults (order_of f t + 1) → r ≡ stage_fits stage tb
         unfolding separates
         response-rest q r n = rw (h, lt-ltb _ _ k, lt-ltb _ _ l, ← e, q) n
 
 pub ruleset stages = (tests-only, faults-none, faults-rest, response-test, response-fault, response-same, response-rest)
 
 module _ (sofar : SoFar) (r : Bool) (w : Tested sofar.table r) where
-  pub ill-formed : not r ≡ true → false ≡ soundTest sofar
-  unfolding soundTest
+  pub ill-formed : not r ≡ true → false ≡ sound_test sofar
+  unfolding sound_test
   ill-formed n = rw (rejected sofar.table r w n)
 
-  pub by-stage : not r ≡ false → (r₂ : Bool) → r₂ ≡ stageFits sofar.stage sofar.table → r₂ ≡ soundTest sofar
-  unfolding soundTest
+  pub by-stage : not r ≡ false → (r₂ : Bool) → r₂ ≡ stage_fits sofar.stage sofar.table → r₂ ≡ sound_test sofar
+  unfolding sound_test
   by-stage n r₂ e = rw (accepted sofar.table r w n) e
 
 -- what passes has counts within the sizes
-pub sound-counts : (sofar : SoFar) (r : Bool) → r ≡ soundTest sofar → not r ≡ false → CountsFit sofar
-unfolding soundTest
-sound-counts sofar r e n =
+pub sound_counts : (sofar : SoFar) (r : Bool) → r ≡ sound_test sofar → not r ≡ false → CountsFit sofar
+unfolding sound_test
+sound_counts sofar r e n =
     let w = formed sofar.table (both_left _ _ (sym e ∙ not-false r n)) in
-    record { tests = w.tests-fit; faults = w.faults-fit }
+    record { tests = w.tests_fit; faults = w.faults_fit }

@@ -2,24 +2,24 @@
 -- Assumes nothing.
 use Rattle.std.specs.Prelude.{List, ◌++◌, ℕ, ◌+◌}
 use Rattle.folds.specs.Fold.{joined, always}
-use Rattle.table.specs.Table.{outputAt, separates, line_of, stuckOf}
+use Rattle.table.specs.Table.{output_at, separates, line_of, stuck_of}
 use Rattle.table.specs.declared.Table.{Table}
 use Rattle.records.specs.declared.Record.TheVariants.{Test, Fault, Response, End}
-use Rattle.records.specs.Step.{recordBytes}
+use Rattle.records.specs.Step.{record_bytes}
 
 module _ (tb : Table) where
   unfoldable pub testBytes : ℕ → List ℕ
-  testBytes t = recordBytes (Test (outputAt tb t 0))
+  testBytes t = record_bytes (Test (output_at tb t 0))
 
   unfoldable pub faultBytes : ℕ → List ℕ
-  faultBytes f = recordBytes (Fault (line_of tb f) (stuckOf tb f))
+  faultBytes f = record_bytes (Fault (line_of tb f) (stuck_of tb f))
 
   unfoldable pub responseBytes : ℕ → ℕ → List ℕ
-  responseBytes f t = recordBytes (Response t f (outputAt tb t (f + 1)))
+  responseBytes f t = record_bytes (Response t f (output_at tb t (f + 1)))
 
   -- "A response that is not given equals the correct output."
   unfoldable pub responsesOf : ℕ → List ℕ
-  responsesOf f = joined (separates (outputAt tb) 0 (f + 1)) (responseBytes f) tb.tests
+  responsesOf f = joined (separates (output_at tb) 0 (f + 1)) (responseBytes f) tb.tests
 
   -- "All tests come first, then faults, then responses, then one end"
   unfoldable pub bookOf : List ℕ
@@ -27,4 +27,4 @@ module _ (tb : Table) where
       joined always testBytes tb.tests
       ++ (joined always faultBytes tb.faults
       ++ (joined always responsesOf tb.faults
-      ++ recordBytes (End tb.tests tb.faults)))
+      ++ record_bytes (End tb.tests tb.faults)))

@@ -5,17 +5,17 @@ use Rattle.table.specs.declared.Refusal.TheVariants.{NotWellFormed}
 use Rattle.checks.specs.Check.{check, Rule, rule, judged}
 use Rattle.records.specs.declared.SoFar.{SoFar}
 use Rattle.records.specs.declared.Stepped.{Stepped}
-use Rattle.records.specs.Step.{refusedAt, ruleAt}
-use Rattle.book.specs.Sound.{soundTest}
+use Rattle.records.specs.Step.{refused_at, ruleAt}
+use Rattle.book.specs.Sound.{sound_test}
 
 -- "A reading so far that no start of any book gives, or a place past the lent book's end, gives 20 with that place and the
 -- empty table, before any other number."
-unfoldable pub callRule : List ℕ → ℕ → SoFar → Rule Stepped
-callRule book place sofar = rule
-    (check NotWellFormed (not (soundTest sofar))
+unfoldable pub call_rule : List ℕ → ℕ → SoFar → Rule Stepped
+call_rule book place sofar = rule
+    (check NotWellFormed (not (sound_test sofar))
     ∷ check NotWellFormed (ltb (length book) place)
     ∷ (ruleAt book place sofar).checks)
     (ruleAt book place sofar).gives
 
-unfoldable pub recordAt : List ℕ → ℕ → SoFar → Stepped
-recordAt book place sofar = judged (refusedAt place) (callRule book place sofar)
+unfoldable pub record_at : List ℕ → ℕ → SoFar → Stepped
+record_at book place sofar = judged (refused_at place) (call_rule book place sofar)

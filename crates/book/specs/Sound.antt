@@ -2,8 +2,8 @@
 -- Assumes nothing.
 use Rattle.std.specs.Prelude.{Bool, true, not, List, ℕ, ◌+◌, ◌*◌, ltb, eqb}
 use Rattle.folds.specs.Fold.{both, either, every}
-use Rattle.table.specs.Table.{cell_at, outputAt, agrees, separates}
-use Rattle.table.specs.Form.{wellFormed}
+use Rattle.table.specs.Table.{cell_at, output_at, agrees, separates}
+use Rattle.table.specs.Form.{well_formed}
 use Rattle.table.specs.declared.Table.{Table}
 use Rattle.records.specs.declared.SoFar.{SoFar}
 use Rattle.records.specs.declared.Stage.{Stage}
@@ -14,24 +14,24 @@ abbrev pub order_of : ℕ → ℕ → ℕ
 order_of f t = f * 24 + t
 
 -- the response of fault f to test t is before the first one asked for, or the correct output
-unfoldable pub correctAt : List ℕ → ℕ → ℕ → ℕ → Bool
-correctAt cells first f t = either (ltb (order_of f t) first) (agrees (cell_at cells) 0 (f + 1) t)
+unfoldable pub correct_at : List ℕ → ℕ → ℕ → ℕ → Bool
+correct_at cells first f t = either (ltb (order_of f t) first) (agrees (cell_at cells) 0 (f + 1) t)
 
-unfoldable pub faultCorrect : List ℕ → ℕ → ℕ → ℕ → Bool
-faultCorrect cells tests first f = every (correctAt cells first f) tests
+unfoldable pub fault_correct : List ℕ → ℕ → ℕ → ℕ → Bool
+fault_correct cells tests first f = every (correct_at cells first f) tests
 
-unfoldable pub correctFrom : List ℕ → ℕ → ℕ → ℕ → Bool
-correctFrom cells tests faults first = every (faultCorrect cells tests first) faults
+unfoldable pub correct_from : List ℕ → ℕ → ℕ → ℕ → Bool
+correct_from cells tests faults first = every (fault_correct cells tests first) faults
 
 -- the stage fits the table: no fault yet; a fault, and no response; the last response is the last that differs; the end
-abbrev pub stageFits : Stage → Table → Bool
-stageFits Tests tb = eqb tb.faults 0
-stageFits Faults tb = both (not (eqb tb.faults 0)) (correctFrom tb.cells tb.tests tb.faults 0)
-stageFits (Responses f t) tb =
+abbrev pub stage_fits : Stage → Table → Bool
+stage_fits Tests tb = eqb tb.faults 0
+stage_fits Faults tb = both (not (eqb tb.faults 0)) (correct_from tb.cells tb.tests tb.faults 0)
+stage_fits (Responses f t) tb =
     both (ltb t tb.tests)
     (both (ltb f tb.faults)
-    (both (separates (outputAt tb) 0 (f + 1) t) (correctFrom tb.cells tb.tests tb.faults (order_of f t + 1))))
-stageFits Ended tb = true
+    (both (separates (output_at tb) 0 (f + 1) t) (correct_from tb.cells tb.tests tb.faults (order_of f t + 1))))
+stage_fits Ended tb = true
 
-unfoldable pub soundTest : SoFar → Bool
-soundTest sofar = both (wellFormed sofar.table) (stageFits sofar.stage sofar.table)
+unfoldable pub sound_test : SoFar → Bool
+sound_test sofar = both (well_formed sofar.table) (stage_fits sofar.stage sofar.table)

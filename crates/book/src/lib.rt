@@ -2,8 +2,8 @@
 ghost use Rattle.std.specs.Prelude.{◌≡◌};
 ghost use Rattle.records.specs.StepIs.{StepIs};
 ghost use Rattle.records.specs.Step.{start};
-ghost use Rattle.book.specs.Reading.{readBook, ReadingIs};
-ghost use Rattle.book.specs.RecordAt.{recordAt};
+ghost use Rattle.book.specs.Reading.{read_book, ReadingIs};
+ghost use Rattle.book.specs.RecordAt.{record_at};
 
 use records::{Outcome, SoFar, Stepped};
 use table::{Reading, Refusal, Verdict};
@@ -20,7 +20,7 @@ pub fn begin() -> SoFar
 
 // The record at a place of the book, after what has been read so far.
 pub fn read_record(book: &[u8], place: usize, sofar: SoFar) -> Stepped
-    ensures { StepIs (recordAt book.now place sofar) result }
+    ensures { StepIs (record_at book.now place sofar) result }
 {
     if !sound::is_sound(sofar) {
         return records::inner::refuse(Refusal::NotWellFormed, place);
@@ -33,7 +33,7 @@ pub fn read_record(book: &[u8], place: usize, sofar: SoFar) -> Stepped
 
 // The reading of a whole book.
 pub fn read_book(book: &[u8]) -> Reading
-    ensures { ReadingIs (readBook book.now) result }
+    ensures { ReadingIs (read_book book.now) result }
 {
     let mut place = 0;
     let mut sofar = begin();

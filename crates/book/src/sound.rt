@@ -1,6 +1,6 @@
 // Whether some start of a book gives what has been read so far.
 ghost use Rattle.std.specs.Prelude.{◌≡◌, ◌≤◌, ◌<◌};
-ghost use Rattle.book.specs.Sound.{correctAt, faultCorrect, correctFrom, stageFits, soundTest};
+ghost use Rattle.book.specs.Sound.{correct_at, fault_correct, correct_from, stage_fits, sound_test};
 
 use records::{SoFar, Stage};
 use table::Table;
@@ -8,7 +8,7 @@ use table::Table;
 // Whether the response of fault f to test t is before the first one asked for, or the correct output.
 fn correct_at(cells: &[u8; 1464], first: usize, f: usize, t: usize) -> bool
     requires { (f < 60) × (t < 24) }
-    ensures { result ≡ correctAt cells.now first f t }
+    ensures { result ≡ correct_at cells.now first f t }
 {
     if f * 24 + t < first {
         return true;
@@ -18,7 +18,7 @@ fn correct_at(cells: &[u8; 1464], first: usize, f: usize, t: usize) -> bool
 
 fn fault_correct(cells: &[u8; 1464], tests: usize, first: usize, f: usize) -> bool
     requires { (tests ≤ 24) × (f < 60) }
-    ensures { result ≡ faultCorrect cells.now tests first f }
+    ensures { result ≡ fault_correct cells.now tests first f }
 {
     let mut i = 0;
     while i < tests {
@@ -32,7 +32,7 @@ fn fault_correct(cells: &[u8; 1464], tests: usize, first: usize, f: usize) -> bo
 
 fn correct_from(cells: &[u8; 1464], tests: usize, faults: usize, first: usize) -> bool
     requires { (tests ≤ 24) × (faults ≤ 60) }
-    ensures { result ≡ correctFrom cells.now tests faults first }
+    ensures { result ≡ correct_from cells.now tests faults first }
 {
     let mut i = 0;
     while i < faults {
@@ -46,7 +46,7 @@ fn correct_from(cells: &[u8; 1464], tests: usize, faults: usize, first: usize) -
 
 fn stage_fits(stage: Stage, table: Table) -> bool
     requires { (table.tests ≤ 24) × (table.faults ≤ 60) }
-    ensures { result ≡ stageFits stage table }
+    ensures { result ≡ stage_fits stage table }
 {
     let tests = table.tests;
     let faults = table.faults;
@@ -75,7 +75,7 @@ fn stage_fits(stage: Stage, table: Table) -> bool
 }
 
 pub fn is_sound(sofar: SoFar) -> bool
-    ensures { result ≡ soundTest sofar }
+    ensures { result ≡ sound_test sofar }
 {
     let table = sofar.table;
     if !table::well_formed(table) {

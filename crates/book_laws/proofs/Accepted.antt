@@ -9,20 +9,20 @@ use lib.Seq.{take_all}
 use Rattle.table.specs.WellFormed.{WellFormed}
 use Rattle.table.specs.OfType.{Long, OfType}
 use Rattle.table.specs.declared.Table.{Table}
-use Rattle.table.proofs.Answers.{number-bounds}
+use Rattle.table.proofs.Answers.{number_bounds}
 use Rattle.checks.specs.Check.{first_of}
 use Rattle.checks.specs.Cursor.{Read}
 use Rattle.book.specs.BookOf.{bookOf}
 use Rattle.book.specs.SomeStart.{Bytes, Reached}
-use Rattle.book.specs.Reading.{readBook}
-use Rattle.records.specs.Step.{recordBytes, rank_of, acceptedAt, edgeRule, ruleAt, stepAt}
+use Rattle.book.specs.Reading.{read_book}
+use Rattle.records.specs.Step.{record_bytes, rank_of, accepted_at, edgeRule, ruleAt, stepAt}
 use Rattle.records.specs.declared.Record.TheVariants.{End}
 use Rattle.records.specs.declared.Stage.{Stage}
 use Rattle.records.specs.declared.Stage.TheVariants.{Ended}
 use Rattle.book_laws.specs.Accepts.{Accepts}
 use Rattle.book_laws.proofs.Along.{so, Along, go_on, end_step}
 use Rattle.book_laws.proofs.Body.{body_of, book-body}
-use Rattle.book_laws.proofs.Good.{ended, reached-good}
+use Rattle.book_laws.proofs.Good.{ended, reached_good}
 use Rattle.book_laws.proofs.Readings.{Ends, refused, accepted, ends, accepted-reading}
 use Rattle.book_laws.proofs.Round.{run}
 
@@ -31,44 +31,44 @@ use Rattle.book_laws.proofs.Round.{run}
 pub record Gave (book : List ℕ) (tb : Table) : Type 0 where
   pub formed : WellFormed tb
   pub typed : Bytes book → OfType tb
-  pub is-book : book ≡ bookOf tb
+  pub is_book : book ≡ bookOf tb
 
-pub accepted-gave : (book : List ℕ) (tb : Table) → Accepts book tb → Gave book tb
-accepted-gave book tb h = go (ends book) h
+pub accepted_gave : (book : List ℕ) (tb : Table) → Accepts book tb → Gave book tb
+accepted_gave book tb h = go (ends book) h
   where
     go : {r : Read} → Ends book r → r ≡ record { number = 0; place = length book; table = tb } → Gave book tb
-    go (refused x why e) q = absurd (omega (arith, (number-bounds why).0, ap (λ (r : Read). r.number) q))
+    go (refused x why e) q = absurd (omega (arith, (number_bounds why).0, ap (λ (r : Read). r.number) q))
     go (accepted {place} {sofar} x l u e) q =
-        let g = reached-good x in
+        let g = reached_good x in
         let same : sofar.table ≡ tb = ap (λ (r : Read). r.table) q in
         record {
           formed = rw same at g.formed;
           typed = λ b. rw same at (g.typed b);
-          is-book = rw same at (sym (take_all place book l) ∙ g.taken ∙ ended sofar.stage sofar.table u);
+          is_book = rw same at (sym (take_all place book l) ∙ g.taken ∙ ended sofar.stage sofar.table u);
         }
 
 -- number 0 comes with the book's length
-pub accepts-whole : (book : List ℕ) → (readBook book).number ≡ 0 → Accepts book (readBook book).table
-accepts-whole book h = go (ends book) h
+pub accepts_whole : (book : List ℕ) → (read_book book).number ≡ 0 → Accepts book (read_book book).table
+accepts_whole book h = go (ends book) h
   where
     go : {r : Read} → Ends book r → r.number ≡ 0 → r ≡ record { number = 0; place = length book; table = r.table }
-    go (refused x why e) q = absurd (omega (arith, (number-bounds why).0))
+    go (refused x why e) q = absurd (omega (arith, (number_bounds why).0))
     go (accepted {place} {sofar} x l u e) q =
-        let p : place ≡ length book = omega (arith, (reached-good x).inside) in
+        let p : place ≡ length book = omega (arith, (reached_good x).inside) in
         rw p refl
 
 -- ---- the book of a well-formed table is accepted
 
-accepts-edge : (book : List ℕ) (place : ℕ) (tb : Table) → length book ≡ place → stepAt book place (so tb Ended) ≡ acceptedAt place (so tb Ended)
+accepts_edge : (book : List ℕ) (place : ℕ) (tb : Table) → length book ≡ place → stepAt book place (so tb Ended) ≡ accepted_at place (so tb Ended)
 unfolding stepAt ruleAt edgeRule first_of
-accepts-edge book place tb e = rw (le-leb (length book) place (omega arith), le-ltb place (length book) (omega arith))
+accepts_edge book place tb e = rw (le-leb (length book) place (omega arith), le-ltb place (length book) (omega arith))
 
 module _ (tb : Table) (w : WellFormed tb) (o : Long tb) where
   abbrev pub Whole : Stage → Table → Type 0
   Whole s u = (u ≡ tb) × (s ≡ Ended)
 
   abbrev end : List ℕ
-  end = recordBytes (End tb.tests tb.faults)
+  end = record_bytes (End tb.tests tb.faults)
 
   -- past the end record, whatever follows it
   pub past_end : (more : List ℕ) → Along (bookOf tb ++ more) more Whole
@@ -94,6 +94,6 @@ module _ (tb : Table) (w : WellFormed tb) (o : Long tb) where
       over a =
           let n = length-drop a.place (bookOf tb) in
           let m = ap length a.left in
-          let p : length (bookOf tb) ≡ a.place = omega (arith, n, m, (reached-good a.reached).inside) in
+          let p : length (bookOf tb) ≡ a.place = omega (arith, n, m, (reached_good a.reached).inside) in
           let x : Reached (bookOf tb) a.place (so tb Ended) = rw (a.holds.0, a.holds.1) at a.reached in
-          accepted-reading x (accepts-edge (bookOf tb) a.place tb p) ∙ rw p refl
+          accepted-reading x (accepts_edge (bookOf tb) a.place tb p) ∙ rw p refl

@@ -9,14 +9,14 @@ use native.Mathlib.Omega.{arith}
 use borrow.Author.Tests.{le-ltb, lt-leb, eq-eqb, ne_eqb}
 use lib.ListN.{length, get_or, drop, length-drop}
 use lib.Seq.{get_or-drop, drop-drop, drop-append_seam}
-use Rattle.table.specs.Table.{outputAt}
-use Rattle.table.specs.Form.{newLabel}
+use Rattle.table.specs.Table.{output_at}
+use Rattle.table.specs.Form.{new_label}
 use Rattle.table.specs.declared.Table.{Table}
 use Rattle.checks.specs.Check.{first_of}
 use Rattle.checks.specs.Reached.{read}
 use Rattle.book.specs.SomeStart.{Reached}
-use Rattle.grow.specs.Grow.{withTest, withFault, withResponse}
-use Rattle.records.specs.Step.{recordBytes, givenAt, rank_of, notAfter, testRule, faultRule, responseRule, endRule, kindRule, ruleAt, stepAt}
+use Rattle.grow.specs.Grow.{with_test, with_fault, with_response}
+use Rattle.records.specs.Step.{record_bytes, given_at, rank_of, not_after, testRule, faultRule, responseRule, endRule, kindRule, ruleAt, stepAt}
 use Rattle.records.specs.declared.Record.{Record}
 use Rattle.records.specs.declared.Record.TheVariants.{Test, Fault, Response, End}
 use Rattle.records.specs.declared.SoFar.{SoFar}
@@ -50,44 +50,44 @@ module _ (book : List ℕ) (place : ℕ) (rest : List ℕ) (e : drop place book 
   left-length = sym (length-drop place book) ∙ ap length e
 
 -- the step over a record
-pub go_on : {book rest : List ℕ} {P : Stage → Table → Type 0} (Q : Stage → Table → Type 0) (r : Record) (a : Along book (recordBytes r ++ rest) P) (tb : Table) (stage : Stage)
-    → stepAt book a.place (so a.table a.stage) ≡ givenAt r (a.place + length (recordBytes r)) tb stage → Q stage tb → Along book rest Q
+pub go_on : {book rest : List ℕ} {P : Stage → Table → Type 0} (Q : Stage → Table → Type 0) (r : Record) (a : Along book (record_bytes r ++ rest) P) (tb : Table) (stage : Stage)
+    → stepAt book a.place (so a.table a.stage) ≡ given_at r (a.place + length (record_bytes r)) tb stage → Q stage tb → Along book rest Q
 go_on {book} {rest} Q r a tb stage e q = record {
-  place = a.place + length (recordBytes r);
+  place = a.place + length (record_bytes r);
   table = tb;
   stage = stage;
   reached = rw e at (read a.reached (rw e refl));
-  left = sym (drop-drop (length (recordBytes r)) a.place book) ∙ ap (drop (length (recordBytes r))) a.left ∙ drop-append_seam (recordBytes r) rest;
+  left = sym (drop-drop (length (record_bytes r)) a.place book) ∙ ap (drop (length (record_bytes r))) a.left ∙ drop-append_seam (record_bytes r) rest;
   holds = q;
 }
 
 module _ (book : List ℕ) (place : ℕ) (tb : Table) (s : Stage) (rest : List ℕ) where
-  pub test-step : (x : ℕ) → drop place book ≡ recordBytes (Test x) ++ rest → rank_of s ≤ 0 → tb.tests < 24
-      → stepAt book place (so tb s) ≡ givenAt (Test x) (place + 2) (withTest tb x) Tests
+  pub test-step : (x : ℕ) → drop place book ≡ record_bytes (Test x) ++ rest → rank_of s ≤ 0 → tb.tests < 24
+      → stepAt book place (so tb s) ≡ given_at (Test x) (place + 2) (with_test tb x) Tests
   unfolding stepAt ruleAt kindRule testRule first_of
   test-step x e hs ht =
       let n = left-length book place _ e in
       let never : rank_of s ≡ 3 → ⊥ = λ z. omega arith in
       rw (lt-leb (length book) place (omega arith), ne_eqb (rank_of s) 3 never, left-kind book place _ e, le-ltb (length book) (place + 2) (omega arith), le-ltb 0 (rank_of s) hs, lt-leb 24 tb.tests ht, left-byte book place _ e 1)
 
-  pub fault-step : (l v : ℕ) → drop place book ≡ recordBytes (Fault l v) ++ rest → rank_of s ≤ 1 → tb.faults < 60 → v ≤ 1 → newLabel tb.lines tb.stuck tb.faults l v ≡ true
-      → stepAt book place (so tb s) ≡ givenAt (Fault l v) (place + 3) (withFault tb l v) Faults
+  pub fault-step : (l v : ℕ) → drop place book ≡ record_bytes (Fault l v) ++ rest → rank_of s ≤ 1 → tb.faults < 60 → v ≤ 1 → new_label tb.lines tb.stuck tb.faults l v ≡ true
+      → stepAt book place (so tb s) ≡ given_at (Fault l v) (place + 3) (with_fault tb l v) Faults
   unfolding stepAt ruleAt kindRule faultRule first_of
   fault-step l v e hs ht hv hl =
       let n = left-length book place _ e in
       let never : rank_of s ≡ 3 → ⊥ = λ z. omega arith in
       rw (lt-leb (length book) place (omega arith), ne_eqb (rank_of s) 3 never, left-kind book place _ e, le-ltb (length book) (place + 3) (omega arith), le-ltb 1 (rank_of s) hs, lt-leb 60 tb.faults ht, left-byte book place _ e 1, left-byte book place _ e 2, le-ltb 1 v hv, hl)
 
-  pub response-step : (t f x : ℕ) → drop place book ≡ recordBytes (Response t f x) ++ rest → rank_of s ≤ 2 → t < tb.tests → f < tb.faults → notAfter s f t ≡ false → (outputAt tb t 0 ≡ x → ⊥)
-      → stepAt book place (so tb s) ≡ givenAt (Response t f x) (place + 4) (withResponse tb t f x) (Responses f t)
+  pub response-step : (t f x : ℕ) → drop place book ≡ record_bytes (Response t f x) ++ rest → rank_of s ≤ 2 → t < tb.tests → f < tb.faults → not_after s f t ≡ false → (output_at tb t 0 ≡ x → ⊥)
+      → stepAt book place (so tb s) ≡ given_at (Response t f x) (place + 4) (with_response tb t f x) (Responses f t)
   unfolding stepAt ruleAt kindRule responseRule first_of
   response-step t f x e hs ht hf ha hx =
       let n = left-length book place _ e in
       let never : rank_of s ≡ 3 → ⊥ = λ z. omega arith in
-      rw (lt-leb (length book) place (omega arith), ne_eqb (rank_of s) 3 never, left-kind book place _ e, le-ltb (length book) (place + 4) (omega arith), left-byte book place _ e 1, left-byte book place _ e 2, left-byte book place _ e 3, lt-leb tb.tests t ht, lt-leb tb.faults f hf, ha, ne_eqb (outputAt tb t 0) x hx)
+      rw (lt-leb (length book) place (omega arith), ne_eqb (rank_of s) 3 never, left-kind book place _ e, le-ltb (length book) (place + 4) (omega arith), left-byte book place _ e 1, left-byte book place _ e 2, left-byte book place _ e 3, lt-leb tb.tests t ht, lt-leb tb.faults f hf, ha, ne_eqb (output_at tb t 0) x hx)
 
-  pub end_step : drop place book ≡ recordBytes (End tb.tests tb.faults) ++ rest → rank_of s ≤ 2
-      → stepAt book place (so tb s) ≡ givenAt (End tb.tests tb.faults) (place + 3) tb Ended
+  pub end_step : drop place book ≡ record_bytes (End tb.tests tb.faults) ++ rest → rank_of s ≤ 2
+      → stepAt book place (so tb s) ≡ given_at (End tb.tests tb.faults) (place + 3) tb Ended
   unfolding stepAt ruleAt kindRule endRule first_of
   end_step e hs =
       let n = left-length book place _ e in

@@ -9,33 +9,33 @@ use Rattle.table.specs.declared.Table.{Table}
 use Rattle.checks.specs.Cursor.{Read}
 use Rattle.book.specs.BookOf.{bookOf}
 use Rattle.book.specs.SomeStart.{Bytes}
-use Rattle.book.specs.Reading.{readBook}
+use Rattle.book.specs.Reading.{read_book}
 use Rattle.book_laws.specs.Accepts.{Accepts, BookOfTable}
-use Rattle.book_laws.proofs.Accepted.{accepted-gave, accepts-whole, book-accepted}
+use Rattle.book_laws.proofs.Accepted.{accepted_gave, accepts_whole, book-accepted}
 use Rattle.book_laws.proofs.Bytes.{book-bytes}
-use Rattle.book_laws.proofs.Good.{book-most}
+use Rattle.book_laws.proofs.Good.{book_most}
 
 -- "Those are the tables that some book gives, and no others.": an accepted book is that of a well-formed table
-pub accepts-book : (book : List ℕ) (tb : Table) → Bytes book → Accepts book tb → BookOfTable book tb
-accepts-book book tb b h =
-    let g = accepted-gave book tb h in
-    record { typed = g.typed b; formed = g.formed; is = g.is-book }
+pub accepts_book : (book : List ℕ) (tb : Table) → Bytes book → Accepts book tb → BookOfTable book tb
+accepts_book book tb b h =
+    let g = accepted_gave book tb h in
+    record { typed = g.typed b; formed = g.formed; is = g.is_book }
 
 -- and such a book is accepted, with that table
-pub book-accepts : (book : List ℕ) (tb : Table) → BookOfTable book tb → Accepts book tb
-book-accepts book tb h = rw h.is (book-accepted tb h.formed h.typed.long)
+pub book_accepts : (book : List ℕ) (tb : Table) → BookOfTable book tb → Accepts book tb
+book_accepts book tb h = rw h.is (book-accepted tb h.formed h.typed.long)
 
 -- every well-formed table has one, and it is made of bytes
-pub some-book : (tb : Table) → OfType tb → WellFormed tb → Bytes (bookOf tb) × Accepts (bookOf tb) tb
-some-book tb o w = (book-bytes tb w o, book-accepted tb w o.long)
+pub some_book : (tb : Table) → OfType tb → WellFormed tb → Bytes (bookOf tb) × Accepts (bookOf tb) tb
+some_book tb o w = (book-bytes tb w o, book-accepted tb w o.long)
 
 -- two tables with the same book are equal
 pub one_table : (a b : Table) → OfType a → WellFormed a → OfType b → WellFormed b → bookOf a ≡ bookOf b → a ≡ b
 one_table a b oa wa ob wb e =
-    ap (λ (r : Read). r.table) (sym (book-accepted a wa oa.long) ∙ ap readBook e ∙ book-accepted b wb ob.long)
+    ap (λ (r : Read). r.table) (sym (book-accepted a wa oa.long) ∙ ap read_book e ∙ book-accepted b wb ob.long)
 
 -- "The longest book has 5,991 bytes": no accepted book is longer
-pub accepted-most : (book : List ℕ) → (readBook book).number ≡ 0 → length book ≤ 5991
-accepted-most book h =
-    let g = accepted-gave book _ (accepts-whole book h) in
-    rw g.is-book (book-most _ g.formed)
+pub accepted_most : (book : List ℕ) → (read_book book).number ≡ 0 → length book ≤ 5991
+accepted_most book h =
+    let g = accepted_gave book _ (accepts_whole book h) in
+    rw g.is_book (book_most _ g.formed)

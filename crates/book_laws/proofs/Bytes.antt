@@ -3,13 +3,13 @@ use Prim.Native.Nat.{ℕ, ◌+◌, ◌<◌}
 use native.Mathlib.Omega.{arith}
 use Rattle.folds.specs.Fold.{joined, always}
 use Rattle.folds.proofs.All.{AllOf, all_of, all_read, all_append, joined-all}
-use Rattle.table.specs.Table.{outputAt}
+use Rattle.table.specs.Table.{output_at}
 use Rattle.table.specs.WellFormed.{WellFormed}
 use Rattle.table.specs.OfType.{OfType}
 use Rattle.table.specs.declared.Table.{Table}
-use Rattle.table.proofs.Stored.{cell-byte}
+use Rattle.table.proofs.Stored.{cell_byte}
 use Rattle.book.specs.BookOf.{testBytes, faultBytes, responseBytes, responsesOf, bookOf}
-use Rattle.records.specs.Step.{recordBytes}
+use Rattle.records.specs.Step.{record_bytes}
 use Rattle.records.specs.declared.Record.TheVariants.{End}
 use Rattle.book.specs.SomeStart.{Bytes}
 use Rattle.book_laws.proofs.Stages.{wrong}
@@ -18,8 +18,8 @@ abbrev pub byte : ℕ → Type 0
 byte x = x < 256
 
 module _ (tb : Table) (w : WellFormed tb) (o : OfType tb) where
-  output : (t c : ℕ) → outputAt tb t c < 256
-  output t c = cell-byte tb.cells o.cells-bytes t c
+  output : (t c : ℕ) → output_at tb t c < 256
+  output t c = cell_byte tb.cells o.cells_bytes t c
 
   test-bytes : (t : ℕ) → AllOf byte (testBytes tb t)
   unfolding testBytes
@@ -27,15 +27,15 @@ module _ (tb : Table) (w : WellFormed tb) (o : OfType tb) where
 
   fault-bytes : (f : ℕ) → AllOf byte (faultBytes tb f)
   unfolding faultBytes
-  fault-bytes f = all_of byte (faultBytes tb f) (omega arith, (o.lines-bytes f, (o.stuck-bytes f, tt)))
+  fault-bytes f = all_of byte (faultBytes tb f) (omega arith, (o.lines_bytes f, (o.stuck_bytes f, tt)))
 
   responses-bytes : (f : ℕ) → f < tb.faults → AllOf byte (responsesOf tb f)
   unfolding responsesOf responseBytes
   responses-bytes f k = joined-all byte (wrong tb f) (responseBytes tb f) tb.tests (λ t h e.
-      all_of byte (responseBytes tb f t) (omega arith, (omega (arith, w.tests-fit), (omega (arith, w.faults-fit), (output t (f + 1), tt)))))
+      all_of byte (responseBytes tb f t) (omega arith, (omega (arith, w.tests_fit), (omega (arith, w.faults_fit), (output t (f + 1), tt)))))
 
-  end-bytes : AllOf byte (recordBytes (End tb.tests tb.faults))
-  end-bytes = all_of byte (recordBytes (End tb.tests tb.faults)) (omega arith, (omega (arith, w.tests-fit), (omega (arith, w.faults-fit), tt)))
+  end-bytes : AllOf byte (record_bytes (End tb.tests tb.faults))
+  end-bytes = all_of byte (record_bytes (End tb.tests tb.faults)) (omega arith, (omega (arith, w.tests_fit), (omega (arith, w.faults_fit), tt)))
 
   pub book-all : AllOf byte (bookOf tb)
   unfolding bookOf

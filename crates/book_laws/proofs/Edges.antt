@@ -10,21 +10,21 @@ use lib.Dec.{eqb}
 use lib.ListN.{length, take, drop, length-drop, length-append, take-append-drop}
 use lib.Seq.{take_all, take-append_seam}
 use Rattle.folds.proofs.Bools.{clash}
-use Rattle.table.specs.Table.{emptyTable}
+use Rattle.table.specs.Table.{empty_table}
 use Rattle.table.specs.declared.Refusal.TheVariants.{NoEnd, BytesFollow}
 use Rattle.table.specs.declared.Table.{Table}
 use Rattle.checks.specs.Refuses.{Refuses}
 use Rattle.book.specs.BookOf.{bookOf}
-use Rattle.book.specs.Reading.{readBook}
-use Rattle.records.specs.Step.{recordBytes, rank_of, edgeRule, ruleAt}
+use Rattle.book.specs.Reading.{read_book}
+use Rattle.records.specs.Step.{record_bytes, rank_of, edgeRule, ruleAt}
 use Rattle.records.specs.declared.Record.TheVariants.{End}
 use Rattle.records.specs.declared.SoFar.{SoFar}
 use Rattle.book_laws.specs.Refuses.{StopsAt, LacksEnd, AfterEnd}
 use Rattle.book_laws.proofs.Accepted.{Whole, past_end}
 use Rattle.book_laws.proofs.Along.{so, Along}
 use Rattle.book_laws.proofs.Body.{body_of, book-body}
-use Rattle.book_laws.proofs.Good.{not-ended, ended, reached-good}
-use Rattle.book_laws.proofs.Numbers.{EdgeOr, edge-or, reading-stops, stops-reading}
+use Rattle.book_laws.proofs.Good.{not_ended, ended, reached_good}
+use Rattle.book_laws.proofs.Numbers.{EdgeOr, edge-or, reading_stops, stops_reading}
 use Rattle.book_laws.proofs.Round.{At-end, run}
 
 module _ (book : List ℕ) (place : ℕ) (sofar : SoFar) where
@@ -60,23 +60,23 @@ module _ (book : List ℕ) (place : ℕ) (sofar : SoFar) where
 -- ---- "For 3 the place is the book's length"
 
 module _ (book : List ℕ) where
-  pub no-end-place : (readBook book).number ≡ 3 → (readBook book).place ≡ length book
+  pub no-end-place : (read_book book).number ≡ 3 → (read_book book).place ≡ length book
   no-end-place h =
-      let s = reading-stops book NoEnd h in
-      omega (arith, (over book _ s.sofar (edge-or book _ s.sofar NoEnd s.refuses)).0, (reached-good s.reached).inside)
+      let s = reading_stops book NoEnd h in
+      omega (arith, (over book _ s.sofar (edge-or book _ s.sofar NoEnd s.refuses)).0, (reached_good s.reached).inside)
 
-  pub no-end-lacks : (readBook book).number ≡ 3 → LacksEnd book
+  pub no-end-lacks : (read_book book).number ≡ 3 → LacksEnd book
   no-end-lacks h =
-      let s = reading-stops book NoEnd h in
+      let s = reading_stops book NoEnd h in
       let tb = s.sofar.table in
       let e = over book _ s.sofar (edge-or book _ s.sofar NoEnd s.refuses) in
-      let g = reached-good s.reached in
-      let is : book ≡ body_of tb = sym (take_all _ book e.0) ∙ g.taken ∙ not-ended s.sofar.stage tb e.1 in
+      let g = reached_good s.reached in
+      let is : book ≡ body_of tb = sym (take_all _ book e.0) ∙ g.taken ∙ not_ended s.sofar.stage tb e.1 in
       record {
         table = tb;
         formed = g.formed;
         long = g.long;
-        rest = ap (λ (xs : List ℕ). xs ++ recordBytes (End tb.tests tb.faults)) is ∙ sym (book-body tb);
+        rest = ap (λ (xs : List ℕ). xs ++ record_bytes (End tb.tests tb.faults)) is ∙ sym (book-body tb);
       }
 
   -- and a book that lacks its end record is refused with 3, there
@@ -85,7 +85,7 @@ module _ (book : List ℕ) where
     tb = l.table
 
     abbrev end : List ℕ
-    end = recordBytes (End tb.tests tb.faults)
+    end = record_bytes (End tb.tests tb.faults)
 
     is_body : book ≡ body_of tb
     is_body =
@@ -96,24 +96,24 @@ module _ (book : List ℕ) where
     at-end : Along book [] (At-end tb l.formed l.long)
     at-end = rw (append-nil (body_of tb) ∙ sym is_body) at (run tb l.formed l.long [])
 
-    pub lacks-end-place : readBook book ≡ record { number = 3; place = length book; table = emptyTable }
+    pub lacks-end-place : read_book book ≡ record { number = 3; place = length book; table = empty_table }
     lacks-end-place =
         let a = at-end in
-        let p : a.place ≡ length book = omega (arith, length-drop a.place book, ap length a.left, (reached-good a.reached).inside) in
+        let p : a.place ≡ length book = omega (arith, length-drop a.place book, ap length a.left, (reached_good a.reached).inside) in
         let s : StopsAt book NoEnd a.place = record {
           sofar = so a.table a.stage;
           reached = a.reached;
           refuses = stops-short book a.place (so a.table a.stage) (omega arith) (λ e. omega (arith, a.holds.1));
         } in
-        stops-reading book NoEnd (length book) (rw p at s)
+        stops_reading book NoEnd (length book) (rw p at s)
 
   -- ---- "for 12 it is that of the byte after the end record"
 
-  pub bytes-follow-place : (readBook book).number ≡ 12 → AfterEnd book (readBook book).place
+  pub bytes-follow-place : (read_book book).number ≡ 12 → AfterEnd book (read_book book).place
   bytes-follow-place h =
-      let s = reading-stops book BytesFollow h in
+      let s = reading_stops book BytesFollow h in
       let p = past book _ s.sofar (edge-or book _ s.sofar BytesFollow s.refuses) in
-      let g = reached-good s.reached in
+      let g = reached_good s.reached in
       record { table = s.sofar.table; formed = g.formed; long = g.long; before = g.taken ∙ ended s.sofar.stage s.sofar.table p.0; more = p.1 }
 
   -- and a book with such a byte is refused with 12, there
@@ -123,13 +123,13 @@ module _ (book : List ℕ) where
         let is : bookOf b.table ++ drop place book ≡ book = ap (λ (xs : List ℕ). xs ++ drop place book) (sym b.before) ∙ take-append-drop place book in
         rw is at (past_end b.table b.formed b.long (drop place book))
 
-    pub after-end-place : readBook book ≡ record { number = 12; place = place; table = emptyTable }
+    pub after-end-place : read_book book ≡ record { number = 12; place = place; table = empty_table }
     after-end-place =
         let a = past-it in
-        let p : a.place ≡ place = omega (arith, length-drop a.place book, length-drop place book, ap length a.left, (reached-good a.reached).inside, b.more) in
+        let p : a.place ≡ place = omega (arith, length-drop a.place book, length-drop place book, ap length a.left, (reached_good a.reached).inside, b.more) in
         let s : StopsAt book BytesFollow a.place = record {
           sofar = so a.table a.stage;
           reached = a.reached;
           refuses = goes_on book a.place (so a.table a.stage) (omega (arith, b.more)) (ap rank_of a.holds.1);
         } in
-        stops-reading book BytesFollow place (rw p at s)
+        stops_reading book BytesFollow place (rw p at s)

@@ -10,91 +10,91 @@ use borrow.Author.Tests.{ltb-false, leb-false, eqb-true, eqb-false, not-false}
 use lib.Dec.{eqb}
 use lib.ListN.{length, get_or, take, length-take, length-append}
 use Rattle.folds.specs.Fold.{always}
-use Rattle.folds.proofs.Below.{below-cases}
+use Rattle.folds.proofs.Below.{below_cases}
 use Rattle.folds.proofs.Joined.{joined-none}
-use Rattle.table.specs.Table.{emptyTable, outputAt}
+use Rattle.table.specs.Table.{empty_table, output_at}
 use Rattle.table.specs.WellFormed.{WellFormed}
 use Rattle.table.specs.OfType.{Long, OfType}
 use Rattle.table.specs.declared.Table.{Table}
-use Rattle.table.proofs.Stored.{cell-here, cell-there}
-use Rattle.table.proofs.Empty.{empty-formed, empty-typed}
+use Rattle.table.proofs.Stored.{cell_here, cell_there}
+use Rattle.table.proofs.Empty.{empty_formed, empty_typed}
 use Rattle.book.specs.BookOf.{testBytes, faultBytes, responsesOf, bookOf}
 use Rattle.checks.specs.Cursor.{on}
 use Rattle.checks.specs.Reached.{begun, read}
 use Rattle.book.specs.SomeStart.{Bytes, Reached}
-use Rattle.grow.specs.Grow.{withFault, withResponse}
+use Rattle.grow.specs.Grow.{with_fault, with_response}
 use Rattle.book.specs.Sound.{order_of}
-use Rattle.records.specs.Step.{start, recordBytes, rank_of, saidBy, testRule, faultRule, responseRule, endRule}
+use Rattle.records.specs.Step.{start, record_bytes, rank_of, said_by, testRule, faultRule, responseRule, endRule}
 use Rattle.records.specs.declared.SoFar.{SoFar}
 use Rattle.records.specs.declared.Stage.{Stage}
 use Rattle.records.specs.declared.Stage.TheVariants.{Tests, Faults, Responses, Ended}
 use Rattle.records.specs.declared.Stepped.{Stepped}
 use Rattle.records.proofs.Steps.{StepGives, test, fault, response, ending, Steps, refuses, accepts, gives, steps}
-use Rattle.book_laws.proofs.Grown.{filled-here, filled-there, test-formed, fault-formed, response-formed, test-long, fault-long, response-long, test-typed, fault-typed, response-typed}
-use Rattle.book_laws.proofs.Stages.{Correct, StageFits, no-fault, no-response, correct-on}
+use Rattle.book_laws.proofs.Grown.{filled_here, filled_there, test-formed, fault-formed, response-formed, test-long, fault-long, response-long, test-typed, fault-typed, response-typed}
+use Rattle.book_laws.proofs.Stages.{Correct, StageFits, no_fault, no_response, correct_on}
 use Rattle.book_laws.proofs.Body.{testsOf, faultsOf, wrongOf, body_of, book-body, body-most, body-test, body-fault, body-response}
-use Rattle.book_laws.proofs.Records.{recordOf, given-bytes, taken-on}
+use Rattle.book_laws.proofs.Records.{record_of, given_bytes, taken_on}
 
 -- the bytes of what has been read
-abbrev pub bytesRead : Stage → Table → List ℕ
-bytesRead Tests tb = body_of tb
-bytesRead Faults tb = body_of tb
-bytesRead (Responses f t) tb = body_of tb
-bytesRead Ended tb = bookOf tb
+abbrev pub bytes_read : Stage → Table → List ℕ
+bytes_read Tests tb = body_of tb
+bytes_read Faults tb = body_of tb
+bytes_read (Responses f t) tb = body_of tb
+bytes_read Ended tb = bookOf tb
 
 pub record Good (book : List ℕ) (place : ℕ) (sofar : SoFar) : Type 0 where
   pub formed : WellFormed sofar.table
   pub long : Long sofar.table
   pub typed : Bytes book → OfType sofar.table
   pub fits : StageFits sofar.stage sofar.table
-  pub taken : take place book ≡ bytesRead sofar.stage sofar.table
+  pub taken : take place book ≡ bytes_read sofar.stage sofar.table
   pub inside : place ≤ length book
 
-empty-body : [] ≡ body_of emptyTable
-unfolding body_of testsOf faultsOf wrongOf emptyTable
-empty-body = rw (joined-none always (testBytes emptyTable), joined-none always (faultBytes emptyTable), joined-none always (responsesOf emptyTable))
+empty_body : [] ≡ body_of empty_table
+unfolding body_of testsOf faultsOf wrongOf empty_table
+empty_body = rw (joined-none always (testBytes empty_table), joined-none always (faultBytes empty_table), joined-none always (responsesOf empty_table))
 
-pub start-good : (book : List ℕ) → Good book 0 start
-unfolding emptyTable
-start-good book = record {
-  formed = empty-formed;
-  long = empty-typed.long;
-  typed = λ _. empty-typed;
+pub start_good : (book : List ℕ) → Good book 0 start
+unfolding empty_table
+start_good book = record {
+  formed = empty_formed;
+  long = empty_typed.long;
+  typed = λ _. empty_typed;
   fits = refl;
-  taken = empty-body;
+  taken = empty_body;
   inside = omega arith;
 }
 
 -- ---- the stage after a fault, and after a response
 
-fault-correct : (tb : Table) (l v : ℕ) → WellFormed tb → Long tb → tb.faults < 60 → Correct tb 0 → Correct (withFault tb l v) 0
-fault-correct tb l v w n h c t f a b d =
-    let few = w.tests-fit in
-    filled-there tb.cells (tb.faults + 1) tb.tests t 0 (omega arith) few (omega arith) (omega arith) (inr (λ e. omega arith))
+fault_correct_lem : (tb : Table) (l v : ℕ) → WellFormed tb → Long tb → tb.faults < 60 → Correct tb 0 → Correct (with_fault tb l v) 0
+fault_correct_lem tb l v w n h c t f a b d =
+    let few = w.tests_fit in
+    filled_there tb.cells (tb.faults + 1) tb.tests t 0 (omega arith) few (omega arith) (omega arith) (inr (λ e. omega arith))
     ∙ ⊎_elim
-    (λ (m : f < tb.faults). c t f a m (omega arith) ∙ sym (filled-there tb.cells (tb.faults + 1) tb.tests t (f + 1) (omega arith) few (omega arith) (omega arith) (inr (λ e. omega arith))))
-    (λ (e : f ≡ tb.faults). rw e (sym (filled-here tb.cells (tb.faults + 1) tb.tests t n.cells (omega arith) few a)))
-    (below-cases f tb.faults (omega arith))
+    (λ (m : f < tb.faults). c t f a m (omega arith) ∙ sym (filled_there tb.cells (tb.faults + 1) tb.tests t (f + 1) (omega arith) few (omega arith) (omega arith) (inr (λ e. omega arith))))
+    (λ (e : f ≡ tb.faults). rw e (sym (filled_here tb.cells (tb.faults + 1) tb.tests t n.cells (omega arith) few a)))
+    (below_cases f tb.faults (omega arith))
 
-response-fits : (tb : Table) (t f x : ℕ) → WellFormed tb → Long tb → t < tb.tests → f < tb.faults → (outputAt tb t 0 ≡ x → ⊥) → Correct tb (order_of f t) → StageFits (Responses f t) (withResponse tb t f x)
-response-fits tb t f x w n h k ne c =
-    let few = w.tests-fit in
-    let fews = w.faults-fit in
-    let healthy : (u : ℕ) → u < tb.tests → outputAt (withResponse tb t f x) u 0 ≡ outputAt tb u 0 = λ u m. cell-there tb.cells t (f + 1) x u 0 (omega arith) (omega arith) (omega arith) (omega arith) (λ e g. omega arith) in
-    let given : outputAt (withResponse tb t f x) t (f + 1) ≡ x = cell-here tb.cells t (f + 1) x n.cells (omega arith) (omega arith) in (
+response_fits : (tb : Table) (t f x : ℕ) → WellFormed tb → Long tb → t < tb.tests → f < tb.faults → (output_at tb t 0 ≡ x → ⊥) → Correct tb (order_of f t) → StageFits (Responses f t) (with_response tb t f x)
+response_fits tb t f x w n h k ne c =
+    let few = w.tests_fit in
+    let fews = w.faults_fit in
+    let healthy : (u : ℕ) → u < tb.tests → output_at (with_response tb t f x) u 0 ≡ output_at tb u 0 = λ u m. cell_there tb.cells t (f + 1) x u 0 (omega arith) (omega arith) (omega arith) (omega arith) (λ e g. omega arith) in
+    let given : output_at (with_response tb t f x) t (f + 1) ≡ x = cell_here tb.cells t (f + 1) x n.cells (omega arith) (omega arith) in (
       h,
       k,
       (λ e. ne (sym (healthy t h) ∙ e ∙ given)),
-      λ u g a b d. healthy u a ∙ c u g a b (omega arith) ∙ sym (cell-there tb.cells t (f + 1) x u (g + 1) (omega arith) (omega arith) (omega arith) (omega arith) (λ e q. omega arith)),
+      λ u g a b d. healthy u a ∙ c u g a b (omega arith) ∙ sym (cell_there tb.cells t (f + 1) x u (g + 1) (omega arith) (omega arith) (omega arith) (omega arith) (λ e q. omega arith)),
     )
 
-pub not-ended : (stage : Stage) (tb : Table) → eqb (rank_of stage) 3 ≡ false → bytesRead stage tb ≡ body_of tb
-not-ended Tests tb u = refl
-not-ended Faults tb u = refl
-not-ended (Responses f t) tb u = refl
-not-ended Ended tb u = absurd (eqb-false 3 3 u refl)
+pub not_ended : (stage : Stage) (tb : Table) → eqb (rank_of stage) 3 ≡ false → bytes_read stage tb ≡ body_of tb
+not_ended Tests tb u = refl
+not_ended Faults tb u = refl
+not_ended (Responses f t) tb u = refl
+not_ended Ended tb u = absurd (eqb-false 3 3 u refl)
 
-pub ended : (stage : Stage) (tb : Table) → eqb (rank_of stage) 3 ≡ true → bytesRead stage tb ≡ bookOf tb
+pub ended : (stage : Stage) (tb : Table) → eqb (rank_of stage) 3 ≡ true → bytes_read stage tb ≡ bookOf tb
 ended Tests tb u = absurd (omega (arith, eqb-true 0 3 u))
 ended Faults tb u = absurd (omega (arith, eqb-true 1 3 u))
 ended (Responses f t) tb u = absurd (omega (arith, eqb-true 2 3 u))
@@ -110,13 +110,13 @@ module _ {book : List ℕ} {place : ℕ} {sofar : SoFar} (g : Good book place so
   byte i = get_or book (place + i) 0
 
   -- the bytes up to the next place
-  grown : {s : Stepped} (k : StepGives book place sofar s) → take s.place book ≡ body_of tb ++ recordBytes (recordOf k)
-  grown {s} k = taken-on book place (recordOf k) s.place (given-bytes k) ∙ ap (λ (x : List ℕ). x ++ recordBytes (recordOf k)) (g.taken ∙ not-ended sofar.stage tb u)
+  grown : {s : Stepped} (k : StepGives book place sofar s) → take s.place book ≡ body_of tb ++ record_bytes (record_of k)
+  grown {s} k = taken_on book place (record_of k) s.place (given_bytes k) ∙ ap (λ (x : List ℕ). x ++ record_bytes (record_of k)) (g.taken ∙ not_ended sofar.stage tb u)
 
   pub good-step : {s : Stepped} → StepGives book place sofar s → Good book s.place s.sofar
   unfolding testRule faultRule responseRule endRule
   good-step {s} (test h k) =
-      let z = no-fault sofar.stage tb g.fits k.1.0 in
+      let z = no_fault sofar.stage tb g.fits k.1.0 in
       let few : tb.tests < 24 = omega (arith, leb-false) in
       record {
         formed = test-formed tb g.formed (byte 1) few;
@@ -127,9 +127,9 @@ module _ {book : List ℕ} {place : ℕ} {sofar : SoFar} (g : Good book place so
         inside = omega (arith, ltb-false);
       }
   good-step {s} (fault h k) =
-      let c = no-response sofar.stage tb g.fits k.1.0 in
+      let c = no_response sofar.stage tb g.fits k.1.0 in
       let few : tb.faults < 60 = omega (arith, leb-false) in
-      let d = fault-correct tb (byte 1) (byte 2) g.formed g.long few c in
+      let d = fault_correct_lem tb (byte 1) (byte 2) g.formed g.long few c in
       record {
         formed = fault-formed tb g.formed g.long (byte 1) (byte 2) few (omega (arith, ltb-false)) (not-false _ k.1.1.1.1.0);
         long = fault-long (byte 1) (byte 2) g.long;
@@ -142,8 +142,8 @@ module _ {book : List ℕ} {place : ℕ} {sofar : SoFar} (g : Good book place so
       let t : byte 1 < tb.tests = omega (arith, leb-false) in
       let f : byte 2 < tb.faults = omega (arith, leb-false) in
       let ne = eqb-false _ _ k.1.1.1.1.0 in
-      let c = correct-on sofar.stage tb (byte 2) (byte 1) g.formed.tests-fit g.fits u k.1.1.1.0 in
-      let d = response-fits tb (byte 1) (byte 2) (byte 3) g.formed g.long t f ne c in
+      let c = correct_on sofar.stage tb (byte 2) (byte 1) g.formed.tests_fit g.fits u k.1.1.1.0 in
+      let d = response_fits tb (byte 1) (byte 2) (byte 3) g.formed g.long t f ne c in
       record {
         formed = response-formed tb g.formed (byte 1) (byte 2) (byte 3) t f;
         long = response-long (byte 1) (byte 2) (byte 3) g.long;
@@ -166,33 +166,33 @@ module _ {book : List ℕ} {place : ℕ} {sofar : SoFar} (g : Good book place so
 
 -- ---- places
 
-pub open-place : {book : List ℕ} {place : ℕ} {sofar : SoFar} → Good book place sofar → eqb (rank_of sofar.stage) 3 ≡ false → place ≤ 5988
-open-place {book} {place} {sofar} g u =
+pub open_place : {book : List ℕ} {place : ℕ} {sofar : SoFar} → Good book place sofar → eqb (rank_of sofar.stage) 3 ≡ false → place ≤ 5988
+open_place {book} {place} {sofar} g u =
     let w = g.formed in
-    let e : length (take place book) ≡ length (body_of sofar.table) = ap length (g.taken ∙ not-ended sofar.stage sofar.table u) in
-    omega (arith, e, length-take place book, body-most sofar.table w.tests-fit w.faults-fit, g.inside)
+    let e : length (take place book) ≡ length (body_of sofar.table) = ap length (g.taken ∙ not_ended sofar.stage sofar.table u) in
+    omega (arith, e, length-take place book, body-most sofar.table w.tests_fit w.faults_fit, g.inside)
 
-pub book-most : (tb : Table) → WellFormed tb → length (bookOf tb) ≤ 5991
-book-most tb w = rw (book-body tb) (simp length-append (omega (arith, body-most tb w.tests-fit w.faults-fit)))
+pub book_most : (tb : Table) → WellFormed tb → length (bookOf tb) ≤ 5991
+book_most tb w = rw (book-body tb) (simp length-append (omega (arith, body-most tb w.tests_fit w.faults_fit)))
 
 pub any_place : {book : List ℕ} {place : ℕ} {sofar : SoFar} → Good book place sofar → place ≤ 5991
 any_place {book} {place} {sofar} g = go sofar.stage g.taken
   where
     body : take place book ≡ body_of sofar.table → place ≤ 5991
-    body e = omega (arith, ap length e, length-take place book, body-most sofar.table g.formed.tests-fit g.formed.faults-fit, g.inside)
+    body e = omega (arith, ap length e, length-take place book, body-most sofar.table g.formed.tests_fit g.formed.faults_fit, g.inside)
 
-    go : (stage : Stage) → take place book ≡ bytesRead stage sofar.table → place ≤ 5991
+    go : (stage : Stage) → take place book ≡ bytes_read stage sofar.table → place ≤ 5991
     go Tests e = body e
     go Faults e = body e
     go (Responses f t) e = body e
-    go Ended e = omega (arith, ap length e, length-take place book, book-most sofar.table g.formed, g.inside)
+    go Ended e = omega (arith, ap length e, length-take place book, book_most sofar.table g.formed, g.inside)
 
 -- every start of a book
-kept : {book : List ℕ} {place : ℕ} {sofar : SoFar} {s : Stepped} → Good book place sofar → Steps book place sofar s → saidBy s.outcome ≡ on → Good book s.place s.sofar
+kept : {book : List ℕ} {place : ℕ} {sofar : SoFar} {s : Stepped} → Good book place sofar → Steps book place sofar s → said_by s.outcome ≡ on → Good book s.place s.sofar
 kept g (refuses why) e = let z : ◌≡◌ {A = ℕ} 0 1 = cc in absurd (omega arith)
 kept g (accepts h u) e = let z : ◌≡◌ {A = ℕ} 0 1 = cc in absurd (omega arith)
 kept g (gives h u k) e = good-step g u k
 
-pub reached-good : {book : List ℕ} {place : ℕ} {sofar : SoFar} → Reached book place sofar → Good book place sofar
-reached-good {book} begun = start-good book
-reached-good {book} (read {place} {sofar} x o) = kept (reached-good x) (steps book place sofar) o
+pub reached_good : {book : List ℕ} {place : ℕ} {sofar : SoFar} → Reached book place sofar → Good book place sofar
+reached_good {book} begun = start_good book
+reached_good {book} (read {place} {sofar} x o) = kept (reached_good x) (steps book place sofar) o

@@ -8,91 +8,91 @@ use native.Mathlib.Omega.{arith}
 use borrow.Author.Tests.{eq-eqb, eqb-true}
 use lib.ListN.{length, get_or, set, length-set}
 use lib.Seq.{get_or-set_same, get_or-set_other}
-use Rattle.folds.proofs.Below.{below-cases}
-use Rattle.folds.proofs.Bools.{both-no, no_both}
-use Rattle.folds.proofs.Every.{every-at, every_of}
+use Rattle.folds.proofs.Below.{below_cases}
+use Rattle.folds.proofs.Bools.{both_no, no_both}
+use Rattle.folds.proofs.Every.{every_at, every_of}
 use Rattle.table.specs.Table.{place_of, cell_at}
-use Rattle.table.specs.Form.{otherLabel, newLabel}
+use Rattle.table.specs.Form.{other_label, new_label}
 use Rattle.table.specs.WellFormed.{WellFormed}
 use Rattle.table.specs.OfType.{Long, OfType}
 use Rattle.table.specs.declared.Table.{Table}
-use Rattle.table.proofs.Stored.{cell-here, cell-there, stored, stored-byte, cell-byte}
-use Rattle.grow.specs.Grow.{withTest, filled, withFault, withResponse}
+use Rattle.table.proofs.Stored.{cell_here, cell_there, stored, stored_byte, cell_byte}
+use Rattle.grow.specs.Grow.{with_test, filled, with_fault, with_response}
 
 -- ---- a column filled with the correct outputs
 
-pub filled-length : (cells : List ℕ) (c n : ℕ) → length (filled cells c n) ≡ length cells
+pub filled_length : (cells : List ℕ) (c n : ℕ) → length (filled cells c n) ≡ length cells
 unfolding filled
-filled-length cells c zero = refl
-filled-length cells c (suc n) = simp length-set (filled-length cells c n)
+filled_length cells c zero = refl
+filled_length cells c (suc n) = simp length-set (filled_length cells c n)
 
 -- the cells outside it stay
-pub filled-there : (cells : List ℕ) (c n t d : ℕ) → c < 61 → n ≤ 24 → t < 24 → d < 61 → (n ≤ t) ⊎ (d ≡ c → ⊥) → cell_at (filled cells c n) t d ≡ cell_at cells t d
+pub filled_there : (cells : List ℕ) (c n t d : ℕ) → c < 61 → n ≤ 24 → t < 24 → d < 61 → (n ≤ t) ⊎ (d ≡ c → ⊥) → cell_at (filled cells c n) t d ≡ cell_at cells t d
 unfolding filled
-filled-there cells c zero t d hc hn ht hd u = refl
-filled-there cells c (suc n) t d hc hn ht hd u =
-    cell-there (filled cells c n) n c _ t d (omega arith) hc ht hd (λ e f. ⊎_elim (λ (w : suc n ≤ t). omega arith) (λ (ne : d ≡ c → ⊥). ne f) u)
-    ∙ filled-there cells c n t d hc (omega arith) ht hd (⊎_elim (λ (w : suc n ≤ t). inl (omega arith)) (λ (ne : d ≡ c → ⊥). inr ne) u)
+filled_there cells c zero t d hc hn ht hd u = refl
+filled_there cells c (suc n) t d hc hn ht hd u =
+    cell_there (filled cells c n) n c _ t d (omega arith) hc ht hd (λ e f. ⊎_elim (λ (w : suc n ≤ t). omega arith) (λ (ne : d ≡ c → ⊥). ne f) u)
+    ∙ filled_there cells c n t d hc (omega arith) ht hd (⊎_elim (λ (w : suc n ≤ t). inl (omega arith)) (λ (ne : d ≡ c → ⊥). inr ne) u)
 
 -- those within it are the correct outputs
-pub filled-here : (cells : List ℕ) (c n t : ℕ) → length cells ≡ 1464 → c < 61 → n ≤ 24 → t < n → cell_at (filled cells c n) t c ≡ cell_at cells t 0
+pub filled_here : (cells : List ℕ) (c n t : ℕ) → length cells ≡ 1464 → c < 61 → n ≤ 24 → t < n → cell_at (filled cells c n) t c ≡ cell_at cells t 0
 unfolding filled
-filled-here cells c zero t l hc hn ht = absurd (omega arith)
-filled-here cells c (suc n) t l hc hn ht =
+filled_here cells c zero t l hc hn ht = absurd (omega arith)
+filled_here cells c (suc n) t l hc hn ht =
     ⊎_elim
     (λ (w : t < n).
-    cell-there (filled cells c n) n c _ t c (omega arith) hc (omega arith) hc (λ e f. omega arith)
-    ∙ filled-here cells c n t l hc (omega arith) w)
-    (λ (e : t ≡ n). rw e (cell-here (filled cells c n) n c _ (filled-length cells c n ∙ l) (omega arith) hc))
-    (below-cases t n ht)
+    cell_there (filled cells c n) n c _ t c (omega arith) hc (omega arith) hc (λ e f. omega arith)
+    ∙ filled_here cells c n t l hc (omega arith) w)
+    (λ (e : t ≡ n). rw e (cell_here (filled cells c n) n c _ (filled_length cells c n ∙ l) (omega arith) hc))
+    (below_cases t n ht)
 
-filled-byte : (cells : List ℕ) (c n : ℕ) → ((k : ℕ) → get_or cells k 0 < 256) → (k : ℕ) → get_or (filled cells c n) k 0 < 256
+filled_byte : (cells : List ℕ) (c n : ℕ) → ((k : ℕ) → get_or cells k 0 < 256) → (k : ℕ) → get_or (filled cells c n) k 0 < 256
 unfolding filled
-filled-byte cells c zero b k = b k
-filled-byte cells c (suc n) b k = stored-byte (filled cells c n) (place_of n c) _ (cell-byte cells b n 0) (filled-byte cells c n b) k
+filled_byte cells c zero b k = b k
+filled_byte cells c (suc n) b k = stored_byte (filled cells c n) (place_of n c) _ (cell_byte cells b n 0) (filled_byte cells c n b) k
 
 -- ---- a label that no fault has so far
 
 module _ (lines stuck : List ℕ) (l v n : ℕ) where
-  pub new-label : newLabel lines stuck n l v ≡ true → (f : ℕ) → f < n → get_or lines f 0 ≡ l → get_or stuck f 0 ≡ v → ⊥
-  unfolding newLabel otherLabel
-  new-label h f w p q = both-no _ _ (every-at (otherLabel lines stuck l v) n f h w) (eq-eqb _ _ p) (eq-eqb _ _ q)
+  pub new-label : new_label lines stuck n l v ≡ true → (f : ℕ) → f < n → get_or lines f 0 ≡ l → get_or stuck f 0 ≡ v → ⊥
+  unfolding new_label other_label
+  new-label h f w p q = both_no _ _ (every_at (other_label lines stuck l v) n f h w) (eq-eqb _ _ p) (eq-eqb _ _ q)
 
-  pub label-new : ((f : ℕ) → f < n → get_or lines f 0 ≡ l → get_or stuck f 0 ≡ v → ⊥) → newLabel lines stuck n l v ≡ true
-  unfolding newLabel otherLabel
-  label-new h = every_of (otherLabel lines stuck l v) n (λ f w. no_both _ _ (λ p q. h f w (eqb-true _ _ p) (eqb-true _ _ q)))
+  pub label-new : ((f : ℕ) → f < n → get_or lines f 0 ≡ l → get_or stuck f 0 ≡ v → ⊥) → new_label lines stuck n l v ≡ true
+  unfolding new_label other_label
+  label-new h = every_of (other_label lines stuck l v) n (λ f w. no_both _ _ (λ p q. h f w (eqb-true _ _ p) (eqb-true _ _ q)))
 
 -- ---- well formed
 
 module _ (tb : Table) (w : WellFormed tb) where
-  pub test-formed : (x : ℕ) → tb.tests < 24 → WellFormed (withTest tb x)
+  pub test-formed : (x : ℕ) → tb.tests < 24 → WellFormed (with_test tb x)
   test-formed x h = record {
-    tests-fit = omega arith;
-    faults-fit = w.faults-fit;
-    stuck-fit = w.stuck-fit;
+    tests_fit = omega arith;
+    faults_fit = w.faults_fit;
+    stuck_fit = w.stuck_fit;
     distinct = w.distinct;
-    cells-clear = λ t c m k u.
-        cell-there tb.cells tb.tests 0 x t c h (omega arith) m k
+    cells_clear = λ t c m k u.
+        cell_there tb.cells tb.tests 0 x t c h (omega arith) m k
         (λ e f. ⊎_elim (λ (v : tb.tests + 1 ≤ t). omega arith) (λ (v : tb.faults + 1 ≤ c). omega arith) u)
-        ∙ w.cells-clear t c m k (⊎_elim (λ (v : tb.tests + 1 ≤ t). inl (omega arith)) (λ v. inr v) u);
-    labels-clear = w.labels-clear;
+        ∙ w.cells_clear t c m k (⊎_elim (λ (v : tb.tests + 1 ≤ t). inl (omega arith)) (λ v. inr v) u);
+    labels_clear = w.labels_clear;
   }
 
-  pub response-formed : (t f x : ℕ) → t < tb.tests → f < tb.faults → WellFormed (withResponse tb t f x)
+  pub response-formed : (t f x : ℕ) → t < tb.tests → f < tb.faults → WellFormed (with_response tb t f x)
   response-formed t f x h l = record {
-    tests-fit = w.tests-fit;
-    faults-fit = w.faults-fit;
-    stuck-fit = w.stuck-fit;
+    tests_fit = w.tests_fit;
+    faults_fit = w.faults_fit;
+    stuck_fit = w.stuck_fit;
     distinct = w.distinct;
-    cells-clear = λ u c m k v.
-        cell-there tb.cells t (f + 1) x u c (omega (arith, w.tests-fit)) (omega (arith, w.faults-fit)) m k
+    cells_clear = λ u c m k v.
+        cell_there tb.cells t (f + 1) x u c (omega (arith, w.tests_fit)) (omega (arith, w.faults_fit)) m k
         (λ e g. ⊎_elim (λ (q : tb.tests ≤ u). omega arith) (λ (q : tb.faults + 1 ≤ c). omega arith) v)
-        ∙ w.cells-clear u c m k v;
-    labels-clear = w.labels-clear;
+        ∙ w.cells_clear u c m k v;
+    labels_clear = w.labels_clear;
   }
 
   module _ (long : Long tb) (l v : ℕ) (h : tb.faults < 60) where
-    label-one : (f g : ℕ) → g < f → f < tb.faults + 1 → newLabel tb.lines tb.stuck tb.faults l v ≡ true
+    label-one : (f g : ℕ) → g < f → f < tb.faults + 1 → new_label tb.lines tb.stuck tb.faults l v ≡ true
         → get_or (set tb.lines tb.faults l) f 0 ≡ get_or (set tb.lines tb.faults l) g 0
         → get_or (set tb.stuck tb.faults v) f 0 ≡ get_or (set tb.stuck tb.faults v) g 0 → ⊥
     label-one f g k m e p q =
@@ -107,56 +107,56 @@ module _ (tb : Table) (w : WellFormed tb) where
         let fl : get_or (set tb.lines tb.faults l) f 0 ≡ l = rw x (get_or-set_same tb.lines tb.faults l 0 (omega (arith, long.lines))) in
         let fs : get_or (set tb.stuck tb.faults v) f 0 ≡ v = rw x (get_or-set_same tb.stuck tb.faults v 0 (omega (arith, long.stuck))) in
         new-label tb.lines tb.stuck l v tb.faults e g (omega arith) (sym gl ∙ sym p ∙ fl) (sym gs ∙ sym q ∙ fs))
-        (below-cases f tb.faults (omega arith))
+        (below_cases f tb.faults (omega arith))
 
-    pub fault-formed : v ≤ 1 → newLabel tb.lines tb.stuck tb.faults l v ≡ true → WellFormed (withFault tb l v)
+    pub fault-formed : v ≤ 1 → new_label tb.lines tb.stuck tb.faults l v ≡ true → WellFormed (with_fault tb l v)
     fault-formed hv e = record {
-      tests-fit = w.tests-fit;
-      faults-fit = omega arith;
-      stuck-fit = λ f m. stored (λ x. x ≤ 1) tb.stuck tb.faults v f (omega (arith, long.stuck)) (λ _. hv)
-          (λ ne. ⊎_elim (λ (x : f < tb.faults). w.stuck-fit f x) (λ (x : f ≡ tb.faults). absurd (ne x)) (below-cases f tb.faults (omega arith)));
+      tests_fit = w.tests_fit;
+      faults_fit = omega arith;
+      stuck_fit = λ f m. stored (λ x. x ≤ 1) tb.stuck tb.faults v f (omega (arith, long.stuck)) (λ _. hv)
+          (λ ne. ⊎_elim (λ (x : f < tb.faults). w.stuck_fit f x) (λ (x : f ≡ tb.faults). absurd (ne x)) (below_cases f tb.faults (omega arith)));
       distinct = λ f g k m p q. label-one f g k m e p q;
-      cells-clear = λ t c m k u.
-          filled-there tb.cells (tb.faults + 1) tb.tests t c (omega arith) w.tests-fit m k
+      cells_clear = λ t c m k u.
+          filled_there tb.cells (tb.faults + 1) tb.tests t c (omega arith) w.tests_fit m k
           (⊎_elim (λ (x : tb.tests ≤ t). inl x) (λ (x : tb.faults + 1 + 1 ≤ c). inr (λ y. omega arith)) u)
-          ∙ w.cells-clear t c m k (⊎_elim (λ (x : tb.tests ≤ t). inl x) (λ (x : tb.faults + 1 + 1 ≤ c). inr (omega arith)) u);
-      labels-clear = λ f m k.
-          let z = w.labels-clear f (omega arith) k in
+          ∙ w.cells_clear t c m k (⊎_elim (λ (x : tb.tests ≤ t). inl x) (λ (x : tb.faults + 1 + 1 ≤ c). inr (omega arith)) u);
+      labels_clear = λ f m k.
+          let z = w.labels_clear f (omega arith) k in
           (get_or-set_other tb.lines tb.faults f l 0 (λ x. omega arith) ∙ z.0, get_or-set_other tb.stuck tb.faults f v 0 (λ x. omega arith) ∙ z.1);
     }
 
 -- ---- of the type
 
 module _ {tb : Table} where
-  pub test-long : (x : ℕ) → Long tb → Long (withTest tb x)
+  pub test-long : (x : ℕ) → Long tb → Long (with_test tb x)
   test-long x o = record { cells = simp length-set o.cells; lines = o.lines; stuck = o.stuck }
 
-  pub fault-long : (l v : ℕ) → Long tb → Long (withFault tb l v)
-  fault-long l v o = record { cells = filled-length tb.cells (tb.faults + 1) tb.tests ∙ o.cells; lines = simp length-set o.lines; stuck = simp length-set o.stuck }
+  pub fault-long : (l v : ℕ) → Long tb → Long (with_fault tb l v)
+  fault-long l v o = record { cells = filled_length tb.cells (tb.faults + 1) tb.tests ∙ o.cells; lines = simp length-set o.lines; stuck = simp length-set o.stuck }
 
-  pub response-long : (t f x : ℕ) → Long tb → Long (withResponse tb t f x)
+  pub response-long : (t f x : ℕ) → Long tb → Long (with_response tb t f x)
   response-long t f x o = record { cells = simp length-set o.cells; lines = o.lines; stuck = o.stuck }
 
-  pub test-typed : (x : ℕ) → x < 256 → OfType tb → OfType (withTest tb x)
+  pub test-typed : (x : ℕ) → x < 256 → OfType tb → OfType (with_test tb x)
   test-typed x h o = record {
     long = test-long x o.long;
-    cells-bytes = stored-byte tb.cells (place_of tb.tests 0) x h o.cells-bytes;
-    lines-bytes = o.lines-bytes;
-    stuck-bytes = o.stuck-bytes;
+    cells_bytes = stored_byte tb.cells (place_of tb.tests 0) x h o.cells_bytes;
+    lines_bytes = o.lines_bytes;
+    stuck_bytes = o.stuck_bytes;
   }
 
-  pub fault-typed : (l v : ℕ) → l < 256 → v < 256 → OfType tb → OfType (withFault tb l v)
+  pub fault-typed : (l v : ℕ) → l < 256 → v < 256 → OfType tb → OfType (with_fault tb l v)
   fault-typed l v h k o = record {
     long = fault-long l v o.long;
-    cells-bytes = filled-byte tb.cells (tb.faults + 1) tb.tests o.cells-bytes;
-    lines-bytes = stored-byte tb.lines tb.faults l h o.lines-bytes;
-    stuck-bytes = stored-byte tb.stuck tb.faults v k o.stuck-bytes;
+    cells_bytes = filled_byte tb.cells (tb.faults + 1) tb.tests o.cells_bytes;
+    lines_bytes = stored_byte tb.lines tb.faults l h o.lines_bytes;
+    stuck_bytes = stored_byte tb.stuck tb.faults v k o.stuck_bytes;
   }
 
-  pub response-typed : (t f x : ℕ) → x < 256 → OfType tb → OfType (withResponse tb t f x)
+  pub response-typed : (t f x : ℕ) → x < 256 → OfType tb → OfType (with_response tb t f x)
   response-typed t f x h o = record {
     long = response-long t f x o.long;
-    cells-bytes = stored-byte tb.cells (place_of t (f + 1)) x h o.cells-bytes;
-    lines-bytes = o.lines-bytes;
-    stuck-bytes = o.stuck-bytes;
+    cells_bytes = stored_byte tb.cells (place_of t (f + 1)) x h o.cells_bytes;
+    lines_bytes = o.lines_bytes;
+    stuck_bytes = o.stuck_bytes;
   }

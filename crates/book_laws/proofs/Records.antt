@@ -7,8 +7,8 @@ use native.Mathlib.Omega.{arith}
 use borrow.Author.Tests.{ltb-false}
 use lib.ListN.{length, get_or, take, drop}
 use lib.Seq.{drop-cons, take-add}
-use Rattle.records.specs.StepIs.{outcomeBytes}
-use Rattle.records.specs.Step.{recordBytes, testRule, faultRule, responseRule, endRule, stepAt}
+use Rattle.records.specs.StepIs.{outcome_bytes}
+use Rattle.records.specs.Step.{record_bytes, testRule, faultRule, responseRule, endRule, stepAt}
 use Rattle.records.specs.declared.Outcome.TheVariants.{Given}
 use Rattle.records.specs.declared.Record.{Record}
 use Rattle.records.specs.declared.Record.TheVariants.{Test, Fault, Response, End}
@@ -19,64 +19,64 @@ use Rattle.book_laws.specs.Records.{BytesAt}
 use Rattle.records.proofs.Steps.{StepGives, test, fault, response, ending, Steps, refuses, accepts, gives, steps}
 
 -- the bytes from a place on, one by one
-pub cons-at : (book : List ℕ) (place : ℕ) → place < length book → drop place book ≡ get_or book place 0 ∷ drop (place + 1) book
-cons-at book place l = let e : place + 1 ≡ suc place = omega arith in rw e (drop-cons book place 0 l)
+pub cons_at : (book : List ℕ) (place : ℕ) → place < length book → drop place book ≡ get_or book place 0 ∷ drop (place + 1) book
+cons_at book place l = let e : place + 1 ≡ suc place = omega arith in rw e (drop-cons book place 0 l)
 
 -- the record that was given
-abbrev pub recordOf : {book : List ℕ} {place : ℕ} {sofar : SoFar} {s : Stepped} → StepGives book place sofar s → Record
-recordOf {book} {place} (test h k) = Test (get_or book (place + 1) 0)
-recordOf {book} {place} (fault h k) = Fault (get_or book (place + 1) 0) (get_or book (place + 2) 0)
-recordOf {book} {place} (response h k) = Response (get_or book (place + 1) 0) (get_or book (place + 2) 0) (get_or book (place + 3) 0)
-recordOf {book} {place} (ending h k) = End (get_or book (place + 1) 0) (get_or book (place + 2) 0)
+abbrev pub record_of : {book : List ℕ} {place : ℕ} {sofar : SoFar} {s : Stepped} → StepGives book place sofar s → Record
+record_of {book} {place} (test h k) = Test (get_or book (place + 1) 0)
+record_of {book} {place} (fault h k) = Fault (get_or book (place + 1) 0) (get_or book (place + 2) 0)
+record_of {book} {place} (response h k) = Response (get_or book (place + 1) 0) (get_or book (place + 2) 0) (get_or book (place + 3) 0)
+record_of {book} {place} (ending h k) = End (get_or book (place + 1) 0) (get_or book (place + 2) 0)
 
 module _ (book : List ℕ) (place : ℕ) where
   at₂ : place + 2 ≤ length book → take 2 (drop place book) ≡ get_or book place 0 ∷ get_or book (place + 1) 0 ∷ []
-  at₂ l = rw (cons-at book place (omega arith), cons-at book (place + 1) (omega arith))
+  at₂ l = rw (cons_at book place (omega arith), cons_at book (place + 1) (omega arith))
 
   at₃ : place + 3 ≤ length book → take 3 (drop place book) ≡ get_or book place 0 ∷ get_or book (place + 1) 0 ∷ get_or book (place + 2) 0 ∷ []
   at₃ l =
       let q : place + 1 + 1 ≡ place + 2 = omega arith in
-      rw (cons-at book place (omega arith), cons-at book (place + 1) (omega arith), q, cons-at book (place + 2) (omega arith))
+      rw (cons_at book place (omega arith), cons_at book (place + 1) (omega arith), q, cons_at book (place + 2) (omega arith))
 
   at₄ : place + 4 ≤ length book → take 4 (drop place book) ≡ get_or book place 0 ∷ get_or book (place + 1) 0 ∷ get_or book (place + 2) 0 ∷ get_or book (place + 3) 0 ∷ []
   at₄ l =
       let q : place + 1 + 1 ≡ place + 2 = omega arith in
       let r : place + 2 + 1 ≡ place + 3 = omega arith in
-      rw (cons-at book place (omega arith), cons-at book (place + 1) (omega arith), q, cons-at book (place + 2) (omega arith), r, cons-at book (place + 3) (omega arith))
+      rw (cons_at book place (omega arith), cons_at book (place + 1) (omega arith), q, cons_at book (place + 2) (omega arith), r, cons_at book (place + 3) (omega arith))
 
-pub given-bytes : {book : List ℕ} {place : ℕ} {sofar : SoFar} {s : Stepped} (g : StepGives book place sofar s) → BytesAt book place (recordOf g) s.place
+pub given_bytes : {book : List ℕ} {place : ℕ} {sofar : SoFar} {s : Stepped} (g : StepGives book place sofar s) → BytesAt book place (record_of g) s.place
 unfolding testRule faultRule responseRule endRule
-given-bytes {book} {place} (test h k) =
+given_bytes {book} {place} (test h k) =
     let l : place + 2 ≤ length book = omega (arith, ltb-false) in
     record { bytes = at₂ book place l ∙ rw h refl; further = refl; inside = l }
-given-bytes {book} {place} (fault h k) =
+given_bytes {book} {place} (fault h k) =
     let l : place + 3 ≤ length book = omega (arith, ltb-false) in
     record { bytes = at₃ book place l ∙ rw h refl; further = refl; inside = l }
-given-bytes {book} {place} (response h k) =
+given_bytes {book} {place} (response h k) =
     let l : place + 4 ≤ length book = omega (arith, ltb-false) in
     record { bytes = at₄ book place l ∙ rw h refl; further = refl; inside = l }
-given-bytes {book} {place} (ending h k) =
+given_bytes {book} {place} (ending h k) =
     let l : place + 3 ≤ length book = omega (arith, ltb-false) in
     record { bytes = at₃ book place l ∙ rw h refl; further = refl; inside = l }
 
-pub given-record : {book : List ℕ} {place : ℕ} {sofar : SoFar} {s : Stepped} (g : StepGives book place sofar s) → s.outcome ≡ Given (recordOf g)
+pub given_record : {book : List ℕ} {place : ℕ} {sofar : SoFar} {s : Stepped} (g : StepGives book place sofar s) → s.outcome ≡ Given (record_of g)
 unfolding testRule faultRule responseRule endRule
-given-record (test h k) = refl
-given-record (fault h k) = refl
-given-record (response h k) = refl
-given-record (ending h k) = refl
+given_record (test h k) = refl
+given_record (fault h k) = refl
+given_record (response h k) = refl
+given_record (ending h k) = refl
 
 -- what has been read up to the next place
-pub taken-on : (book : List ℕ) (place : ℕ) (r : Record) (next : ℕ) → BytesAt book place r next → take next book ≡ take place book ++ recordBytes r
-taken-on book place r next b = rw b.further (take-add place (length (recordBytes r)) book ∙ ap (λ (x : List ℕ). take place book ++ x) b.bytes)
+pub taken_on : (book : List ℕ) (place : ℕ) (r : Record) (next : ℕ) → BytesAt book place r next → take next book ≡ take place book ++ record_bytes r
+taken_on book place r next b = rw b.further (take-add place (length (record_bytes r)) book ∙ ap (λ (x : List ℕ). take place book ++ x) b.bytes)
 
 -- the theorem, of a step
-pub record-there : (book : List ℕ) (place : ℕ) (sofar : SoFar) (r : Record) → outcomeBytes (stepAt book place sofar).outcome ≡ recordBytes r → BytesAt book place r (stepAt book place sofar).place
-record-there book place sofar r e = go (steps book place sofar) (given_by _ r e)
+pub record_there : (book : List ℕ) (place : ℕ) (sofar : SoFar) (r : Record) → outcome_bytes (stepAt book place sofar).outcome ≡ record_bytes r → BytesAt book place r (stepAt book place sofar).place
+record_there book place sofar r e = go (steps book place sofar) (given_by _ r e)
   where
     go : {s : Stepped} → Steps book place sofar s → s.outcome ≡ Given r → BytesAt book place r s.place
     go (refuses why) e = let z : ◌≡◌ {A = ℕ} 0 1 = cc in absurd (omega arith)
     go (accepts h u) e = let z : ◌≡◌ {A = ℕ} 0 1 = cc in absurd (omega arith)
     go {s} (gives h u g) e =
-        let q : recordOf g ≡ r = cc (given-record g) in
-        rw q at (given-bytes g)
+        let q : record_of g ≡ r = cc (given_record g) in
+        rw q at (given_bytes g)

@@ -11,49 +11,49 @@ use lib.Dec.{eqb}
 use lib.ListN.{length, get_or, set}
 use lib.Seq.{get_or-set_same, get_or-set_other, ext_get_or}
 use Rattle.folds.specs.Fold.{joined, always}
-use Rattle.folds.proofs.Below.{lt-or-ge, eq-or-ne, below-cases}
+use Rattle.folds.proofs.Below.{lt_or_ge, eq_or_ne, below_cases}
 use Rattle.folds.proofs.Bools.{both_false, clash}
-use Rattle.folds.proofs.Gather.{always-true}
+use Rattle.folds.proofs.Gather.{always_true}
 use Rattle.folds.proofs.Rows.{joined-run}
-use Rattle.table.specs.Table.{emptyTable, tableWith, outputAt, line_of, stuckOf}
-use Rattle.table.specs.Form.{newLabel}
+use Rattle.table.specs.Table.{empty_table, table_with, output_at, line_of, stuck_of}
+use Rattle.table.specs.Form.{new_label}
 use Rattle.table.specs.WellFormed.{WellFormed}
 use Rattle.table.specs.OfType.{Long}
 use Rattle.table.specs.declared.Table.{Table}
-use Rattle.table.proofs.Stored.{cell-here, cell-there, cells_same}
+use Rattle.table.proofs.Stored.{cell_here, cell_there, cells_same}
 use Rattle.book.specs.BookOf.{testBytes, faultBytes, responseBytes, responsesOf, bookOf}
 use Rattle.checks.specs.Reached.{begun}
-use Rattle.grow.specs.Grow.{withTest, withFault, withResponse}
+use Rattle.grow.specs.Grow.{with_test, with_fault, with_response}
 use Rattle.book.specs.Sound.{order_of}
-use Rattle.records.specs.Step.{recordBytes, rank_of, notAfter}
+use Rattle.records.specs.Step.{record_bytes, rank_of, not_after}
 use Rattle.records.specs.declared.Record.TheVariants.{Test, Fault, Response, End}
 use Rattle.records.specs.declared.Stage.{Stage}
 use Rattle.records.specs.declared.Stage.TheVariants.{Tests, Faults, Responses, Ended}
 use Rattle.book_laws.proofs.Along.{Along, along, go_on, test-step, fault-step, response-step}
 use Rattle.book_laws.proofs.Body.{testsOf, faultsOf, wrongOf, body_of, book-body}
-use Rattle.book_laws.proofs.Good.{reached-good}
-use Rattle.book_laws.proofs.Grown.{filled-here, filled-there, label-new}
+use Rattle.book_laws.proofs.Good.{reached_good}
+use Rattle.book_laws.proofs.Grown.{filled_here, filled_there, label-new}
 use Rattle.book_laws.proofs.Stages.{wrong, wrong-differs, right-same}
 
 -- a table is its parts
 pub table_same : {u t : Table} → u.tests ≡ t.tests → u.faults ≡ t.faults → u.cells ≡ t.cells → u.lines ≡ t.lines → u.stuck ≡ t.stuck → u ≡ t
 table_same {u} {t} a b c d e = whole
   where
-    whole : tableWith u u.tests u.faults u.cells u.lines u.stuck ≡ tableWith t t.tests t.faults t.cells t.lines t.stuck
+    whole : table_with u u.tests u.faults u.cells u.lines u.stuck ≡ table_with t t.tests t.faults t.cells t.lines t.stuck
     whole = rw (a, b, c, d, e)
 
 -- two lists of 60 labels that agree below n, and are zero from there
-labels-same : (xs ys : List ℕ) (n : ℕ) → length xs ≡ 60 → length ys ≡ 60 → ((f : ℕ) → f < n → get_or xs f 0 ≡ get_or ys f 0)
+labels_same : (xs ys : List ℕ) (n : ℕ) → length xs ≡ 60 → length ys ≡ 60 → ((f : ℕ) → f < n → get_or xs f 0 ≡ get_or ys f 0)
     → ((f : ℕ) → n ≤ f → f < 60 → get_or xs f 0 ≡ 0) → ((f : ℕ) → n ≤ f → f < 60 → get_or ys f 0 ≡ 0) → xs ≡ ys
-labels-same xs ys n l m h p q = ext_get_or 0 xs ys (l ∙ sym m) λ k b.
-    ⊎_elim (h k) (λ (x : n ≤ k). p k x (rw l at b) ∙ sym (q k x (rw l at b))) (lt-or-ge k n)
+labels_same xs ys n l m h p q = ext_get_or 0 xs ys (l ∙ sym m) λ k b.
+    ⊎_elim (h k) (λ (x : n ≤ k). p k x (rw l at b) ∙ sym (q k x (rw l at b))) (lt_or_ge k n)
 
 module _ (t : Table) (w : WellFormed t) (o : Long t) where
   abbrev few : t.tests ≤ 24
-  few = w.tests-fit
+  few = w.tests_fit
 
   abbrev fews : t.faults ≤ 60
-  fews = w.faults-fit
+  fews = w.faults_fit
 
   -- ---- the tables on the way
 
@@ -61,16 +61,16 @@ module _ (t : Table) (w : WellFormed t) (o : Long t) where
   record After-tests (k : ℕ) (u : Table) : Type 0 where
     tests : u.tests ≡ k
     faults : u.faults ≡ 0
-    outputs : (i : ℕ) → i < k → outputAt u i 0 ≡ outputAt t i 0
+    outputs : (i : ℕ) → i < k → output_at u i 0 ≡ output_at t i 0
 
-  more-tests : (k : ℕ) (u : Table) → Long u → k < 24 → After-tests k u → After-tests (k + 1) (withTest u (outputAt t k 0))
+  more-tests : (k : ℕ) (u : Table) → Long u → k < 24 → After-tests k u → After-tests (k + 1) (with_test u (output_at t k 0))
   more-tests k u n h a = record {
     tests = rw a.tests;
     faults = a.faults;
     outputs = λ i l. ⊎_elim
-        (λ (m : i < k). cell-there u.cells u.tests 0 _ i 0 (omega (arith, a.tests)) (omega arith) (omega arith) (omega arith) (λ e f. omega (arith, a.tests)) ∙ a.outputs i m)
-        (λ (e : i ≡ k). rw (e, a.tests) (cell-here u.cells k 0 _ n.cells h (omega arith)))
-        (below-cases i k (omega arith));
+        (λ (m : i < k). cell_there u.cells u.tests 0 _ i 0 (omega (arith, a.tests)) (omega arith) (omega arith) (omega arith) (λ e f. omega (arith, a.tests)) ∙ a.outputs i m)
+        (λ (e : i ≡ k). rw (e, a.tests) (cell_here u.cells k 0 _ n.cells h (omega arith)))
+        (below_cases i k (omega arith));
   }
 
   -- after all tests and k faults
@@ -78,11 +78,11 @@ module _ (t : Table) (w : WellFormed t) (o : Long t) where
     tests : u.tests ≡ t.tests
     faults : u.faults ≡ k
     lines : (f : ℕ) → f < k → line_of u f ≡ line_of t f
-    stuck : (f : ℕ) → f < k → stuckOf u f ≡ stuckOf t f
-    outputs : (i c : ℕ) → i < t.tests → c ≤ k → outputAt u i c ≡ outputAt t i 0
+    stuck : (f : ℕ) → f < k → stuck_of u f ≡ stuck_of t f
+    outputs : (i c : ℕ) → i < t.tests → c ≤ k → output_at u i c ≡ output_at t i 0
 
-  no-faults : (u : Table) → After-tests t.tests u → After-faults 0 u
-  no-faults u a = record {
+  no_faults : (u : Table) → After-tests t.tests u → After-faults 0 u
+  no_faults u a = record {
     tests = a.tests;
     faults = a.faults;
     lines = λ f h. absurd (omega arith);
@@ -90,7 +90,7 @@ module _ (t : Table) (w : WellFormed t) (o : Long t) where
     outputs = λ i c h l. let z : c ≡ 0 = omega arith in rw z (a.outputs i h);
   }
 
-  fresh-label : (k : ℕ) (u : Table) → k < t.faults → After-faults k u → newLabel u.lines u.stuck u.faults (line_of t k) (stuckOf t k) ≡ true
+  fresh-label : (k : ℕ) (u : Table) → k < t.faults → After-faults k u → new_label u.lines u.stuck u.faults (line_of t k) (stuck_of t k) ≡ true
   fresh-label k u h a =
       rw a.faults (label-new u.lines u.stuck _ _ k (λ f l p q. w.distinct k f l h (sym p ∙ a.lines f l) (sym q ∙ a.stuck f l)))
 
@@ -98,9 +98,9 @@ module _ (t : Table) (w : WellFormed t) (o : Long t) where
   label-more xs ys k n l h e a f m = ⊎_elim
       (λ (b : f < k). get_or-set_other xs n f _ 0 (λ q. omega arith) ∙ a f b)
       (λ (b : f ≡ k). rw (b, e) (get_or-set_same xs k _ 0 (omega arith)))
-      (below-cases f k (omega arith))
+      (below_cases f k (omega arith))
 
-  more-faults : (k : ℕ) (u : Table) → Long u → k < t.faults → After-faults k u → After-faults (k + 1) (withFault u (line_of t k) (stuckOf t k))
+  more-faults : (k : ℕ) (u : Table) → Long u → k < t.faults → After-faults k u → After-faults (k + 1) (with_fault u (line_of t k) (stuck_of t k))
   more-faults k u n h a =
       let g = a.faults in
       let m = a.tests in
@@ -110,9 +110,9 @@ module _ (t : Table) (w : WellFormed t) (o : Long t) where
         lines = label-more u.lines t.lines k u.faults n.lines (omega (arith, fews)) g a.lines;
         stuck = label-more u.stuck t.stuck k u.faults n.stuck (omega (arith, fews)) g a.stuck;
         outputs = λ i c l b. ⊎_elim
-            (λ (x : c < k + 1). filled-there u.cells (u.faults + 1) u.tests i c (omega (arith, fews)) (omega (arith, few)) (omega (arith, few)) (omega (arith, fews)) (inr (λ e. omega arith)) ∙ a.outputs i c l (omega arith))
-            (λ (x : c ≡ k + 1). rw (x, ← g) (filled-here u.cells (u.faults + 1) u.tests i n.cells (omega (arith, fews)) (omega (arith, few)) (omega arith)) ∙ a.outputs i 0 l (omega arith))
-            (below-cases c (k + 1) (omega arith));
+            (λ (x : c < k + 1). filled_there u.cells (u.faults + 1) u.tests i c (omega (arith, fews)) (omega (arith, few)) (omega (arith, few)) (omega (arith, fews)) (inr (λ e. omega arith)) ∙ a.outputs i c l (omega arith))
+            (λ (x : c ≡ k + 1). rw (x, ← g) (filled_here u.cells (u.faults + 1) u.tests i n.cells (omega (arith, fews)) (omega (arith, few)) (omega arith)) ∙ a.outputs i 0 l (omega arith))
+            (below_cases c (k + 1) (omega arith));
       }
 
   -- after all tests and faults, and the responses before the one that stands at n among all
@@ -120,10 +120,10 @@ module _ (t : Table) (w : WellFormed t) (o : Long t) where
     tests : u.tests ≡ t.tests
     faults : u.faults ≡ t.faults
     lines : (f : ℕ) → f < t.faults → line_of u f ≡ line_of t f
-    stuck : (f : ℕ) → f < t.faults → stuckOf u f ≡ stuckOf t f
-    healthy : (i : ℕ) → i < t.tests → outputAt u i 0 ≡ outputAt t i 0
-    given : (i f : ℕ) → i < t.tests → f < t.faults → order_of f i < n → outputAt u i (f + 1) ≡ outputAt t i (f + 1)
-    correct : (i f : ℕ) → i < t.tests → f < t.faults → n ≤ order_of f i → outputAt u i (f + 1) ≡ outputAt t i 0
+    stuck : (f : ℕ) → f < t.faults → stuck_of u f ≡ stuck_of t f
+    healthy : (i : ℕ) → i < t.tests → output_at u i 0 ≡ output_at t i 0
+    given : (i f : ℕ) → i < t.tests → f < t.faults → order_of f i < n → output_at u i (f + 1) ≡ output_at t i (f + 1)
+    correct : (i f : ℕ) → i < t.tests → f < t.faults → n ≤ order_of f i → output_at u i (f + 1) ≡ output_at t i 0
 
   no-responses : (u : Table) → After-faults t.faults u → After-responses 0 u
   no-responses u a = record {
@@ -136,7 +136,7 @@ module _ (t : Table) (w : WellFormed t) (o : Long t) where
     correct = λ i f h l b. a.outputs i (f + 1) h (omega arith);
   }
 
-  more-responses : (i f : ℕ) (u : Table) → Long u → i < t.tests → f < t.faults → After-responses (order_of f i) u → After-responses (order_of f i + 1) (withResponse u i f (outputAt t i (f + 1)))
+  more-responses : (i f : ℕ) (u : Table) → Long u → i < t.tests → f < t.faults → After-responses (order_of f i) u → After-responses (order_of f i + 1) (with_response u i f (output_at t i (f + 1)))
   more-responses i f u n hi hf a = record {
     tests = a.tests;
     faults = a.faults;
@@ -148,16 +148,16 @@ module _ (t : Table) (w : WellFormed t) (o : Long t) where
         (λ (m : order_of f i ≤ order_of g j).
         let p : j ≡ i = omega (arith, few) in
         let q : g ≡ f = omega (arith, few) in
-        rw (p, q) (cell-here u.cells i (f + 1) _ n.cells (omega (arith, few)) (omega (arith, fews))))
-        (lt-or-ge (order_of g j) (order_of f i));
+        rw (p, q) (cell_here u.cells i (f + 1) _ n.cells (omega (arith, few)) (omega (arith, fews))))
+        (lt_or_ge (order_of g j) (order_of f i));
     correct = λ j g h l b. there j (g + 1) h (omega arith) (λ e q. omega arith) ∙ a.correct j g h l (omega arith);
   }
     where
-      there : (j c : ℕ) → j < t.tests → c ≤ t.faults → (j ≡ i → c ≡ f + 1 → ⊥) → outputAt (withResponse u i f (outputAt t i (f + 1))) j c ≡ outputAt u j c
-      there j c h l ne = cell-there u.cells i (f + 1) _ j c (omega (arith, few)) (omega (arith, fews)) (omega (arith, few)) (omega (arith, fews)) ne
+      there : (j c : ℕ) → j < t.tests → c ≤ t.faults → (j ≡ i → c ≡ f + 1 → ⊥) → output_at (with_response u i f (output_at t i (f + 1))) j c ≡ output_at u j c
+      there j c h l ne = cell_there u.cells i (f + 1) _ j c (omega (arith, few)) (omega (arith, fews)) (omega (arith, few)) (omega (arith, fews)) ne
 
   -- nothing is written where the output is the correct one; nor between the rows
-  later : (n m : ℕ) (u : Table) → n ≤ m → ((i f : ℕ) → i < t.tests → f < t.faults → n ≤ order_of f i → order_of f i < m → outputAt t i 0 ≡ outputAt t i (f + 1)) → After-responses n u → After-responses m u
+  later : (n m : ℕ) (u : Table) → n ≤ m → ((i f : ℕ) → i < t.tests → f < t.faults → n ≤ order_of f i → order_of f i < m → output_at t i 0 ≡ output_at t i (f + 1)) → After-responses n u → After-responses m u
   later n m u l same a = record {
     tests = a.tests;
     faults = a.faults;
@@ -167,34 +167,34 @@ module _ (t : Table) (w : WellFormed t) (o : Long t) where
     given = λ j g h k b. ⊎_elim
         (λ (x : order_of g j < n). a.given j g h k x)
         (λ (x : n ≤ order_of g j). a.correct j g h k x ∙ same j g h k x b)
-        (lt-or-ge (order_of g j) n);
+        (lt_or_ge (order_of g j) n);
     correct = λ j g h k b. a.correct j g h k (omega arith);
   }
 
   -- the table after all responses is the table
   module _ (n : ℕ) (u : Table) (wu : WellFormed u) (nu : Long u) (h : order_of t.faults 0 ≤ n) (a : After-responses n u) where
-    used-same : (i c : ℕ) → i < t.tests → c ≤ t.faults → outputAt u i c ≡ outputAt t i c
+    used-same : (i c : ℕ) → i < t.tests → c ≤ t.faults → output_at u i c ≡ output_at t i c
     used-same i zero l m = a.healthy i l
     used-same i (suc f) l m = rw (sym (add-one f)) (a.given i f l (omega arith) (omega (arith, few)))
 
-    all_same : (i c : ℕ) → i < 24 → c < 61 → outputAt u i c ≡ outputAt t i c
+    all_same : (i c : ℕ) → i < 24 → c < 61 → output_at u i c ≡ output_at t i c
     all_same i c l m =
         let p = a.tests in
         let q = a.faults in
         ⊎_elim
         (λ (x : i < t.tests).
         ⊎_elim (λ (y : c < t.faults + 1). used-same i c x (omega arith))
-        (λ (y : t.faults + 1 ≤ c). wu.cells-clear i c l m (inr (omega arith)) ∙ sym (w.cells-clear i c l m (inr y)))
-        (lt-or-ge c (t.faults + 1)))
-        (λ (x : t.tests ≤ i). wu.cells-clear i c l m (inl (omega arith)) ∙ sym (w.cells-clear i c l m (inl x)))
-        (lt-or-ge i t.tests)
+        (λ (y : t.faults + 1 ≤ c). wu.cells_clear i c l m (inr (omega arith)) ∙ sym (w.cells_clear i c l m (inr y)))
+        (lt_or_ge c (t.faults + 1)))
+        (λ (x : t.tests ≤ i). wu.cells_clear i c l m (inl (omega arith)) ∙ sym (w.cells_clear i c l m (inl x)))
+        (lt_or_ge i t.tests)
 
     after-all : u ≡ t
     after-all =
         let q = a.faults in
         table_same a.tests a.faults (cells_same u.cells t.cells nu.cells o.cells all_same)
-        (labels-same u.lines t.lines t.faults nu.lines o.lines a.lines (λ f x y. (wu.labels-clear f (omega arith) y).0) (λ f x y. (w.labels-clear f x y).0))
-        (labels-same u.stuck t.stuck t.faults nu.stuck o.stuck a.stuck (λ f x y. (wu.labels-clear f (omega arith) y).1) (λ f x y. (w.labels-clear f x y).1))
+        (labels_same u.lines t.lines t.faults nu.lines o.lines a.lines (λ f x y. (wu.labels_clear f (omega arith) y).0) (λ f x y. (w.labels_clear f x y).0))
+        (labels_same u.stuck t.stuck t.faults nu.stuck o.stuck a.stuck (λ f x y. (wu.labels_clear f (omega arith) y).1) (λ f x y. (w.labels_clear f x y).1))
 
   -- ---- the stage before the response at a place
 
@@ -216,13 +216,13 @@ module _ (t : Table) (w : WellFormed t) (o : Long t) where
   before_more (Responses g j) n m h b = (omega (arith, b.0), b.1)
   before_more Ended n m h b = b
 
-  before-after : (s : Stage) (f i : ℕ) → i < 24 → Ahead s (order_of f i) → notAfter s f i ≡ false
+  before-after : (s : Stage) (f i : ℕ) → i < 24 → Ahead s (order_of f i) → not_after s f i ≡ false
   before-after Tests f i h b = refl
   before-after Faults f i h b = refl
   before-after Ended f i h b = absurd b
   before-after (Responses g j) f i h b =
       rw (le-ltb f g (omega (arith, b.0, b.1)))
-      (⊎_elim (λ (e : f ≡ g). rw (lt-leb i j (omega (arith, b.0))) (both_false (eqb f g))) (λ (ne : f ≡ g → ⊥). rw (ne_eqb f g ne)) (eq-or-ne f g))
+      (⊎_elim (λ (e : f ≡ g). rw (lt-leb i j (omega (arith, b.0))) (both_false (eqb f g))) (λ (ne : f ≡ g → ⊥). rw (ne_eqb f g ne)) (eq_or_ne f g))
 
   -- ---- the runs over each group of the book
 
@@ -237,30 +237,30 @@ module _ (t : Table) (w : WellFormed t) (o : Long t) where
 
   module _ (book : List ℕ) where
     long-at : {rest : List ℕ} {P : Stage → Table → Type 0} (a : Along book rest P) → Long a.table
-    long-at a = (reached-good a.reached).long
+    long-at a = (reached_good a.reached).long
 
     tests-run : (rest : List ℕ) → Along book (joined always (testBytes t) t.tests ++ rest) (At-tests 0) → Along book rest (At-tests t.tests)
     unfolding testBytes
-    tests-run rest a = joined-run always (testBytes t) t.tests (λ k rest. Along book rest (At-tests k)) step (λ k rest h e. clash _ (always-true k) e) rest a
+    tests-run rest a = joined-run always (testBytes t) t.tests (λ k rest. Along book rest (At-tests k)) step (λ k rest h e. clash _ (always_true k) e) rest a
       where
-        step : (k : ℕ) (rest : List ℕ) → k < t.tests → always k ≡ true → Along book (recordBytes (Test (outputAt t k 0)) ++ rest) (At-tests k) → Along book rest (At-tests (k + 1))
+        step : (k : ℕ) (rest : List ℕ) → k < t.tests → always k ≡ true → Along book (record_bytes (Test (output_at t k 0)) ++ rest) (At-tests k) → Along book rest (At-tests (k + 1))
         step k rest h e b =
-            go_on (At-tests (k + 1)) (Test (outputAt t k 0)) b (withTest b.table (outputAt t k 0)) Tests
-            (test-step book b.place b.table b.stage _ (outputAt t k 0) b.left b.holds.0 (omega (arith, b.holds.1.tests, few)))
+            go_on (At-tests (k + 1)) (Test (output_at t k 0)) b (with_test b.table (output_at t k 0)) Tests
+            (test-step book b.place b.table b.stage _ (output_at t k 0) b.left b.holds.0 (omega (arith, b.holds.1.tests, few)))
             (omega arith, more-tests k b.table (long-at b) (omega (arith, few)) b.holds.1)
 
     faults-run : (rest : List ℕ) → Along book (joined always (faultBytes t) t.faults ++ rest) (At-faults 0) → Along book rest (At-faults t.faults)
     unfolding faultBytes
-    faults-run rest a = joined-run always (faultBytes t) t.faults (λ k rest. Along book rest (At-faults k)) step (λ k rest h e. clash _ (always-true k) e) rest a
+    faults-run rest a = joined-run always (faultBytes t) t.faults (λ k rest. Along book rest (At-faults k)) step (λ k rest h e. clash _ (always_true k) e) rest a
       where
-        step : (k : ℕ) (rest : List ℕ) → k < t.faults → always k ≡ true → Along book (recordBytes (Fault (line_of t k) (stuckOf t k)) ++ rest) (At-faults k) → Along book rest (At-faults (k + 1))
+        step : (k : ℕ) (rest : List ℕ) → k < t.faults → always k ≡ true → Along book (record_bytes (Fault (line_of t k) (stuck_of t k)) ++ rest) (At-faults k) → Along book rest (At-faults (k + 1))
         step k rest h e b =
-            go_on (At-faults (k + 1)) (Fault (line_of t k) (stuckOf t k)) b (withFault b.table (line_of t k) (stuckOf t k)) Faults
-            (fault-step book b.place b.table b.stage _ (line_of t k) (stuckOf t k) b.left b.holds.0 (omega (arith, b.holds.1.faults, fews)) (w.stuck-fit k h) (fresh-label k b.table h b.holds.1))
+            go_on (At-faults (k + 1)) (Fault (line_of t k) (stuck_of t k)) b (with_fault b.table (line_of t k) (stuck_of t k)) Faults
+            (fault-step book b.place b.table b.stage _ (line_of t k) (stuck_of t k) b.left b.holds.0 (omega (arith, b.holds.1.faults, fews)) (w.stuck_fit k h) (fresh-label k b.table h b.holds.1))
             (omega arith, more-faults k b.table (long-at b) h b.holds.1)
 
     -- nothing is written between two places
-    pass : {rest : List ℕ} (n m : ℕ) → n ≤ m → ((i f : ℕ) → i < t.tests → f < t.faults → n ≤ order_of f i → order_of f i < m → outputAt t i 0 ≡ outputAt t i (f + 1))
+    pass : {rest : List ℕ} (n m : ℕ) → n ≤ m → ((i f : ℕ) → i < t.tests → f < t.faults → n ≤ order_of f i → order_of f i < m → output_at t i 0 ≡ output_at t i (f + 1))
         → Along book rest (At-responses n) → Along book rest (At-responses m)
     pass n m l same a = along (At-responses m) a (before_more a.stage n m l a.holds.0, later n m a.table l same a.holds.1)
 
@@ -268,13 +268,13 @@ module _ (t : Table) (w : WellFormed t) (o : Long t) where
     unfolding responseBytes
     row-run f rest hf a = joined-run (wrong t f) (responseBytes t f) t.tests (λ i rest. Along book rest (At-responses (order_of f i))) took passed rest a
       where
-        took : (i : ℕ) (rest : List ℕ) → i < t.tests → wrong t f i ≡ true → Along book (recordBytes (Response i f (outputAt t i (f + 1))) ++ rest) (At-responses (order_of f i)) → Along book rest (At-responses (order_of f (i + 1)))
+        took : (i : ℕ) (rest : List ℕ) → i < t.tests → wrong t f i ≡ true → Along book (record_bytes (Response i f (output_at t i (f + 1))) ++ rest) (At-responses (order_of f i)) → Along book rest (At-responses (order_of f (i + 1)))
         took i rest hi x b =
             let c = b.holds.1 in
             let ne = wrong-differs t f i x in
             let next : order_of f i + 1 ≡ order_of f (i + 1) = omega arith in
-            go_on (At-responses (order_of f (i + 1))) (Response i f (outputAt t i (f + 1))) b (withResponse b.table i f (outputAt t i (f + 1))) (Responses f i)
-            (response-step book b.place b.table b.stage _ i f (outputAt t i (f + 1)) b.left (before-rank b.stage _ b.holds.0) (omega (arith, hi, c.tests)) (omega (arith, hf, c.faults))
+            go_on (At-responses (order_of f (i + 1))) (Response i f (output_at t i (f + 1))) b (with_response b.table i f (output_at t i (f + 1))) (Responses f i)
+            (response-step book b.place b.table b.stage _ i f (output_at t i (f + 1)) b.left (before-rank b.stage _ b.holds.0) (omega (arith, hi, c.tests)) (omega (arith, hf, c.faults))
             (before-after b.stage f i (omega (arith, hi, few)) b.holds.0) (λ z. ne (sym (c.healthy i hi) ∙ z)))
             ((omega arith, omega (arith, hi, few)), rw next at (more-responses i f b.table (long-at b) hi hf c))
 
@@ -290,7 +290,7 @@ module _ (t : Table) (w : WellFormed t) (o : Long t) where
 
     responses-run : (rest : List ℕ) → Along book (joined always (responsesOf t) t.faults ++ rest) (At-responses (order_of 0 0)) → Along book rest (At-responses (order_of t.faults 0))
     unfolding responsesOf
-    responses-run rest a = joined-run always (responsesOf t) t.faults (λ f rest. Along book rest (At-responses (order_of f 0))) step (λ f rest h e. clash _ (always-true f) e) rest a
+    responses-run rest a = joined-run always (responsesOf t) t.faults (λ f rest. Along book rest (At-responses (order_of f 0))) step (λ f rest h e. clash _ (always_true f) e) rest a
       where
         step : (f : ℕ) (rest : List ℕ) → f < t.faults → always f ≡ true → Along book (responsesOf t f ++ rest) (At-responses (order_of f 0)) → Along book rest (At-responses (order_of (f + 1) 0))
         step f rest h e b =
@@ -299,10 +299,10 @@ module _ (t : Table) (w : WellFormed t) (o : Long t) where
   -- ---- the whole book
 
   at-start : (book rest : List ℕ) → book ≡ rest → Along book rest (At-tests 0)
-  unfolding emptyTable
+  unfolding empty_table
   at-start book rest e = record {
     place = 0;
-    table = emptyTable;
+    table = empty_table;
     stage = Tests;
     reached = begun;
     left = e;
@@ -320,11 +320,11 @@ module _ (t : Table) (w : WellFormed t) (o : Long t) where
 
   whole : {book rest : List ℕ} → Along book rest (At-responses (order_of t.faults 0)) → Along book rest At-end
   whole a =
-      let g = reached-good a.reached in
+      let g = reached_good a.reached in
       along At-end a (after-all (order_of t.faults 0) a.table g.formed g.long (omega arith) a.holds.1, before-rank a.stage (order_of t.faults 0) a.holds.0)
 
   from-faults : {book rest : List ℕ} → Along book rest (At-tests t.tests) → Along book rest (At-faults 0)
-  from-faults a = along (At-faults 0) a (omega (arith, a.holds.0), no-faults a.table a.holds.1)
+  from-faults a = along (At-faults 0) a (omega (arith, a.holds.0), no_faults a.table a.holds.1)
 
   from-responses : {book rest : List ℕ} → Along book rest (At-faults t.faults) → Along book rest (At-responses 0)
   from-responses a = along (At-responses 0) a (low a.stage a.holds.0, no-responses a.table a.holds.1)
@@ -339,5 +339,5 @@ module _ (t : Table) (w : WellFormed t) (o : Long t) where
       (from-faults (tests-run book _ (at-start book _ (simp append_assoc)))))))
 
   -- the table's book leads to its end record
-  pub book-run : Along (bookOf t) (recordBytes (End t.tests t.faults)) At-end
-  book-run = rw (book-body t) (run (recordBytes (End t.tests t.faults)))
+  pub book-run : Along (bookOf t) (record_bytes (End t.tests t.faults)) At-end
+  book-run = rw (book-body t) (run (record_bytes (End t.tests t.faults)))

@@ -11,11 +11,11 @@ use Rattle.checks.specs.Cursor.{Read}
 use Rattle.checks.proofs.Alike.{Alike, alike}
 use Rattle.checks.proofs.Twins.{twins}
 use Rattle.book.specs.SomeStart.{Reached}
-use Rattle.book.specs.Reading.{cursor, readBook}
+use Rattle.book.specs.Reading.{cursor, read_book}
 use Rattle.book.proofs.Loop.{advances}
 use Rattle.records.specs.Step.{rank_of, testRule, faultRule, responseRule, endRule, unknownRule, edgeRule, kindRule, ruleAt, stepAt}
 use Rattle.records.specs.declared.SoFar.{SoFar}
-use Rattle.book_laws.proofs.Good.{Good, reached-good, open-place, any_place}
+use Rattle.book_laws.proofs.Good.{Good, reached_good, open_place, any_place}
 use Rattle.book_laws.proofs.Readings.{Ends, refused, accepted, ends}
 
 module _ (a b : List ℕ) (same : take 5992 a ≡ take 5992 b) where
@@ -49,21 +49,21 @@ module _ (a b : List ℕ) (same : take 5992 a ≡ take 5992 b) where
           ≡ whether (either x y) (edgeRule b place sofar) (kindRule b place sofar (get_or b place 0))
       go true y u = refl
       go false true u = refl
-      go false false u = kind-same place sofar (omega (arith, open-place g u))
+      go false false u = kind-same place sofar (omega (arith, open_place g u))
 
   step_same : (place : ℕ) (sofar : SoFar) → Reached a place sofar → stepAt a place sofar ≡ stepAt b place sofar
   unfolding stepAt
-  step_same place sofar x = rw (rule-same place sofar (reached-good x))
+  step_same place sofar x = rw (rule-same place sofar (reached_good x))
 
   -- "the first 5,992 bytes of any input settle the reader's answer"
-  pub settles : readBook a ≡ readBook b
-  unfolding readBook
+  pub settles : read_book a ≡ read_book b
+  unfolding read_book
   settles = twins cursor a stepAt b step_same (advances a) (advances b)
 
 -- every place that a reading gives is in the book, and at most 5,991
-pub place-most : (book : List ℕ) → ((readBook book).place ≤ 5991) × ((readBook book).place ≤ length book)
-place-most book = go (ends book)
+pub place_most : (book : List ℕ) → ((read_book book).place ≤ 5991) × ((read_book book).place ≤ length book)
+place_most book = go (ends book)
   where
     go : {r : Read} → Ends book r → (r.place ≤ 5991) × (r.place ≤ length book)
-    go (refused x why e) = let g = reached-good x in (any_place g, g.inside)
-    go (accepted x l u e) = let g = reached-good x in (any_place g, g.inside)
+    go (refused x why e) = let g = reached_good x in (any_place g, g.inside)
+    go (accepted x l u e) = let g = reached_good x in (any_place g, g.inside)

@@ -5,14 +5,14 @@ use mathlib.Core.Path.{◌≡◌}
 use Prim.Native.Nat.{ℕ, ◌≤◌}
 use native.Mathlib.Omega.{arith}
 use Rattle.folds.proofs.Bools.{both_true, both_left, both_right}
-use Rattle.table.specs.Form.{wellFormed}
+use Rattle.table.specs.Form.{well_formed}
 use Rattle.table.specs.WellFormed.{WellFormed}
 use Rattle.table.specs.OfType.{OfType}
 use Rattle.table.specs.declared.Table.{Table}
 use Rattle.table.proofs.Formed.{formed, tested}
 use Rattle.book.specs.BookOf.{bookOf}
 use Rattle.book.specs.SomeStart.{Reached, SomeStart}
-use Rattle.book.specs.Sound.{soundTest}
+use Rattle.book.specs.Sound.{sound_test}
 use Rattle.records.specs.Step.{rank_of}
 use Rattle.records.specs.declared.SoFar.{SoFar}
 use Rattle.records.specs.declared.Stage.{Stage}
@@ -20,20 +20,20 @@ use Rattle.records.specs.declared.Stage.TheVariants.{Tests, Faults, Responses, E
 use Rattle.book_laws.proofs.Accepted.{book-ended}
 use Rattle.book_laws.proofs.Along.{so, Along}
 use Rattle.book_laws.proofs.Bytes.{book-bytes}
-use Rattle.book_laws.proofs.Good.{reached-good}
+use Rattle.book_laws.proofs.Good.{reached_good}
 use Rattle.book_laws.proofs.Round.{book-run}
-use Rattle.book_laws.proofs.Stages.{StageFits, fits-tested, tested-fits, one-stage}
+use Rattle.book_laws.proofs.Stages.{StageFits, fits_tested, tested_fits, one_stage}
 
 -- ---- what a start of a book gives passes the test
 
-pub reached-sound : {book : List ℕ} {place : ℕ} {sofar : SoFar} → Reached book place sofar → soundTest sofar ≡ true
-unfolding soundTest
-reached-sound {book} {place} {sofar} x =
-    let g = reached-good x in
-    both_true _ _ (tested sofar.table g.formed) (fits-tested sofar.stage sofar.table g.fits)
+pub reached_sound : {book : List ℕ} {place : ℕ} {sofar : SoFar} → Reached book place sofar → sound_test sofar ≡ true
+unfolding sound_test
+reached_sound {book} {place} {sofar} x =
+    let g = reached_good x in
+    both_true _ _ (tested sofar.table g.formed) (fits_tested sofar.stage sofar.table g.fits)
 
-pub start-sound : (sofar : SoFar) → SomeStart sofar → soundTest sofar ≡ true
-start-sound sofar (book, place, b, x) = reached-sound x
+pub start_sound : (sofar : SoFar) → SomeStart sofar → sound_test sofar ≡ true
+start_sound sofar (book, place, b, x) = reached_sound x
 
 -- ---- what passes the test is given by a start of its own table's book
 
@@ -44,7 +44,7 @@ module _ (tb : Table) (o : OfType tb) (w : WellFormed tb) where
       go : {rest : List ℕ} → Along (bookOf tb) rest (λ s u. (u ≡ tb) × (rank_of s ≤ 2)) → (k : ℕ) × Reached (bookOf tb) k (so tb s)
       go a =
           let x : Reached (bookOf tb) a.place (so tb a.stage) = rw a.holds.0 at a.reached in
-          (a.place, rw (one-stage a.stage s tb w.tests-fit a.holds.1 h (reached-good x).fits f) at x)
+          (a.place, rw (one_stage a.stage s tb w.tests_fit a.holds.1 h (reached_good x).fits f) at x)
 
   by-stage : (s : Stage) → StageFits s tb → (k : ℕ) × Reached (bookOf tb) k (so tb s)
   by-stage Tests f = before-end Tests (omega arith) f
@@ -52,10 +52,10 @@ module _ (tb : Table) (o : OfType tb) (w : WellFormed tb) where
   by-stage (Responses g t) f = before-end (Responses g t) (omega arith) f
   by-stage Ended f = let a = book-ended tb w o.long in (a.place, rw (a.holds.0, a.holds.1) at a.reached)
 
-pub sound-start : (sofar : SoFar) → OfType sofar.table → soundTest sofar ≡ true → SomeStart sofar
-unfolding soundTest
-sound-start sofar o h =
+pub sound_start : (sofar : SoFar) → OfType sofar.table → sound_test sofar ≡ true → SomeStart sofar
+unfolding sound_test
+sound_start sofar o h =
     let w = formed sofar.table (both_left _ _ h) in
-    let f = tested-fits sofar.stage sofar.table (both_right (wellFormed sofar.table) _ h) in
+    let f = tested_fits sofar.stage sofar.table (both_right (well_formed sofar.table) _ h) in
     let x = by-stage sofar.table o w sofar.stage f in
     (bookOf sofar.table, x.0, book-bytes sofar.table w o, x.1)

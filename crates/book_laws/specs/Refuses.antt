@@ -8,16 +8,16 @@ use Rattle.book.specs.BookOf.{bookOf}
 use Rattle.table.specs.declared.Refusal.{Refusal}
 use Rattle.book.specs.SomeStart.{Reached}
 use Rattle.checks.specs.Refuses.{Refuses}
-use Rattle.records.specs.StepIs.{outcomeNumber, outcomeBytes}
-use Rattle.records.specs.Step.{recordBytes, start, ruleAt}
+use Rattle.records.specs.StepIs.{outcome_number, outcome_bytes}
+use Rattle.records.specs.Step.{record_bytes, start, ruleAt}
 use Rattle.records.specs.declared.Record.TheVariants.{End}
 use Rattle.records.specs.declared.SoFar.{SoFar}
 use Rattle.records.specs.declared.Stepped.{Stepped}
 
 -- "It returns the number, the place of that record's first byte, and the empty table.": a step refused with number n at a place
 pub record RefusedWith (n at : ℕ) (s : Stepped) : Type 0 where
-  pub number : outcomeNumber s.outcome ≡ n
-  pub bytes : outcomeBytes s.outcome ≡ []
+  pub number : outcome_number s.outcome ≡ n
+  pub bytes : outcome_bytes s.outcome ≡ []
   pub place : s.place ≡ at
   pub sofar : s.sofar ≡ start
 
@@ -32,7 +32,7 @@ pub record LacksEnd (book : List ℕ) : Type 0 where
   pub table : Table
   pub formed : WellFormed table
   pub long : Long table
-  pub rest : book ++ recordBytes (End table.tests table.faults) ≡ bookOf table
+  pub rest : book ++ record_bytes (End table.tests table.faults) ≡ bookOf table
 
 -- "the byte after the end record": up to the place stands the whole book of a table, and a byte follows
 pub record AfterEnd (book : List ℕ) (place : ℕ) : Type 0 where

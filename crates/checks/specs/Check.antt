@@ -33,8 +33,8 @@ module _ {A : Type 0} (refused : Refusal → A) where
 -- ---- what every kind of book has
 
 -- at the book's end, or past its end record
-abbrev pub edgeChecks : Bool → ℕ → ℕ → List Check
-edgeChecks ended place size =
+abbrev pub edge_checks : Bool → ℕ → ℕ → List Check
+edge_checks ended place size =
     -- "the book stops at a record's edge with no end record"
     check NoEnd (not ended)
     -- "a byte follows the end"
@@ -42,5 +42,5 @@ edgeChecks ended place size =
     ∷ []
 
 -- "every other value of the kind byte"
-abbrev pub unknownChecks : List Check
-unknownChecks = check UnknownKind true ∷ []
+abbrev pub unknown_checks : List Check
+unknown_checks = check UnknownKind true ∷ []

@@ -2,7 +2,7 @@
 -- Assumes nothing.
 use Rattle.std.specs.Prelude.{List, ◌≡◌, ℕ, zero, suc, length}
 use Rattle.table.specs.Answers.{number_of}
-use Rattle.table.specs.Table.{emptyTable}
+use Rattle.table.specs.Table.{empty_table}
 use Rattle.table.specs.declared.Refusal.TheVariants.{NoEnd}
 use Rattle.table.specs.declared.Table.{Table}
 
@@ -39,7 +39,7 @@ module _ {S T : Type 0} (k : Cursor S T) where
   module _ (book : List ℕ) where
     -- the reading from a place, in at most n steps
     abbrev pub readFrom : ℕ → ℕ → S → Read
-    readFrom zero place sofar = record { number = number_of NoEnd; place = place; table = emptyTable }
+    readFrom zero place sofar = record { number = number_of NoEnd; place = place; table = empty_table }
     readFrom (suc n) place sofar =
         let t = k.step book place sofar in
         after (k.says t) t (readFrom n (k.next t) (k.then t))

@@ -7,10 +7,10 @@ use native.Mathlib.Nat.{mod-eq_of_lt, lt_of_le_of_lt, div-mul-le_self}
 use native.Mathlib.Omega.{arith}
 use lib.Bits.{bit_and, bit_or, and_zero_r}
 use lib.ListN.{length, get_or}
-use Rattle.folds.proofs.Below.{lt-or-ge, eq-or-ne}
+use Rattle.folds.proofs.Below.{lt_or_ge, eq_or_ne}
 use Rattle.sets.specs.Sets.{bit, Within, weight}
-use Rattle.sets.proofs.Bits.{bit-lt, from_out, from_in, bit-low, bit_high, bit-zero, bit_below}
-use Rattle.sets.proofs.Shared.{bit-and, bit-or, shares, shares-not}
+use Rattle.sets.proofs.Bits.{bit_lt, from_out, from_in, bit_low, bit_high, bit_zero, bit_below}
+use Rattle.sets.proofs.Shared.{bit-bit_and, bit-bit_or, shares, shares_not}
 use Rattle.sets.proofs.Weight.{weight-two, weight-more}
 use Rattle.choice.specs.Search.{Positive, FirstUnhit, Open, RestOf, NeedsMore}
 
@@ -31,9 +31,9 @@ pub record Apart (masks : List ℕ) (chosen rest taken i : ℕ) : Type 0 where
   pub apart : i < length masks → bit_and (bit_and (get_or masks i 0) rest) taken ≡ 0
 
 -- what lies within two sets that share nothing shares nothing
-zero-within : (m m' a a' : ℕ) → Within (λ t. bit m' t ≡ 1) m → Within (λ t. bit a' t ≡ 1) a → bit_and m' a' ≡ 0 → bit_and m a ≡ 0
-zero-within m m' a a' f g e =
-    ⊎_elim (λ z. z) (λ ne. let w = shares m a ne in absurd (shares-not m' a' e (w.0, f w.0 w.1, g w.0 w.2))) (eq-or-ne (bit_and m a) 0)
+zero_within : (m m' a a' : ℕ) → Within (λ t. bit m' t ≡ 1) m → Within (λ t. bit a' t ≡ 1) a → bit_and m' a' ≡ 0 → bit_and m a ≡ 0
+zero_within m m' a a' f g e =
+    ⊎_elim (λ z. z) (λ ne. let w = shares m a ne in absurd (shares_not m' a' e (w.0, f w.0 w.1, g w.0 w.2))) (eq_or_ne (bit_and m a) 0)
 
 module _ (masks : List ℕ) (chosen rest from i : ℕ) where
   pub apart-first : FirstUnhit masks from chosen i → Apart masks chosen rest 0 i
@@ -41,8 +41,8 @@ module _ (masks : List ℕ) (chosen rest from i : ℕ) where
 
   pub apart_next : (taken : ℕ) → FirstUnhit masks from (bit_or chosen taken) i → Apart masks chosen rest taken i
   apart_next taken h = record {
-    unhit = λ l. zero-within m m chosen both (λ t e. e) (λ t e. omega (arith, bit-or chosen taken t, bit-lt taken t)) (h.stopped l);
-    apart = λ l. zero-within (bit_and m rest) m taken both (λ t e. omega (arith, bit-and m rest t, bit-lt m t)) (λ t e. omega (arith, bit-or chosen taken t, bit-lt chosen t)) (h.stopped l);
+    unhit = λ l. zero_within m m chosen both (λ t e. e) (λ t e. omega (arith, bit-bit_or chosen taken t, bit_lt taken t)) (h.stopped l);
+    apart = λ l. zero_within (bit_and m rest) m taken both (λ t e. omega (arith, bit-bit_and m rest t, bit_lt m t)) (λ t e. omega (arith, bit-bit_or chosen taken t, bit_lt chosen t)) (h.stopped l);
   }
     where
       m : ℕ
@@ -53,7 +53,7 @@ module _ (masks : List ℕ) (chosen rest from i : ℕ) where
 
 module _ (masks : List ℕ) (keep t chosen : ℕ) (decided : chosen < 2 ^ t) where
   pub covered_none : Covered masks keep t chosen 0 0
-  covered_none = record { low = λ i l. bit-zero i; all = λ w positive limit s o. omega arith }
+  covered_none = record { low = λ i l. bit_zero i; all = λ w positive limit s o. omega arith }
 
   pub covered-needs : (taken n : ℕ) → Covered masks keep t chosen taken n → NeedsMore masks keep t chosen n
   covered-needs taken n c w positive limit s o =
@@ -61,8 +61,8 @@ module _ (masks : List ℕ) (keep t chosen : ℕ) (decided : chosen < 2 ^ t) whe
         arith,
         c.all w positive limit s o,
         weight-two w chosen (bit_and s taken) s (λ i. ⊎_elim
-            (λ l. omega (arith, bit-low s t i l, ap (λ (x : ℕ). bit x i) o.agrees, bit-and s taken i, c.low i l))
-            (λ l. omega (arith, bit_high chosen t i decided l, bit-and s taken i)) (lt-or-ge i t)),
+            (λ l. omega (arith, bit_low s t i l, ap (λ (x : ℕ). bit x i) o.agrees, bit-bit_and s taken i, c.low i l))
+            (λ l. omega (arith, bit_high chosen t i decided l, bit-bit_and s taken i)) (lt_or_ge i t)),
       )
 
   module _ (rest : ℕ) (r : RestOf keep t rest) (k : ℕ) (l : k < length masks) where
@@ -73,27 +73,27 @@ module _ (masks : List ℕ) (keep t chosen : ℕ) (decided : chosen < 2 ^ t) whe
         let h = o.hits k l in
         let j = h.0 in
         ⊎_elim
-        (λ m. absurd (shares-not (get_or masks k 0) chosen e (j, h.1, ap (λ (x : ℕ). bit x j) (sym o.agrees) ∙ bit-low s t j m ∙ h.2)))
-        (λ m. (j, bit_below 24 s j o.below h.2, h.2, omega (arith, bit-and (get_or masks k 0) rest j, h.1, r.high j m, o.keeps j m h.2)))
-        (lt-or-ge j t)
+        (λ m. absurd (shares_not (get_or masks k 0) chosen e (j, h.1, ap (λ (x : ℕ). bit x j) (sym o.agrees) ∙ bit_low s t j m ∙ h.2)))
+        (λ m. (j, bit_below 24 s j o.below h.2, h.2, omega (arith, bit-bit_and (get_or masks k 0) rest j, h.1, r.high j m, o.keeps j m h.2)))
+        (lt_or_ge j t)
 
     -- a mask more is taken
     pub covered_more : (taken n : ℕ) → Covered masks keep t chosen taken n → Apart masks chosen rest taken k
         → Covered masks keep t chosen (bit_or (bit_and (get_or masks k 0) rest) taken) (n + 1)
     covered_more taken n c a = record {
-      low = λ i m. omega (arith, bit-or (bit_and (get_or masks k 0) rest) taken i, bit-and (get_or masks k 0) rest i, r.low i m, c.low i m);
+      low = λ i m. omega (arith, bit-bit_or (bit_and (get_or masks k 0) rest) taken i, bit-bit_and (get_or masks k 0) rest i, r.low i m, c.low i m);
       all = λ w positive limit s o.
           let new = bit_and (get_or masks k 0) rest in
           let h = left-test w limit s o (a.unhit l) in
           let j = h.0 in
-          let z : bit taken j ≡ 0 = omega (arith, bit-and new taken j, ap (λ (x : ℕ). bit x j) (a.apart l), bit-zero j, h.3) in
+          let z : bit taken j ≡ 0 = omega (arith, bit-bit_and new taken j, ap (λ (x : ℕ). bit x j) (a.apart l), bit_zero j, h.3) in
           omega (
             arith,
             c.all w positive limit s o,
             positive j h.1,
             weight-more w (bit_and s taken) (bit_and s (bit_or new taken)) j h.1
-                (λ i. omega (arith, bit-and s taken i, bit-and s (bit_or new taken) i, bit-or new taken i))
-                (omega (arith, bit-and s taken j))
-                (omega (arith, bit-and s (bit_or new taken) j, bit-or new taken j, h.2, h.3)),
+                (λ i. omega (arith, bit-bit_and s taken i, bit-bit_and s (bit_or new taken) i, bit-bit_or new taken i))
+                (omega (arith, bit-bit_and s taken j))
+                (omega (arith, bit-bit_and s (bit_or new taken) j, bit-bit_or new taken j, h.2, h.3)),
           );
     }

@@ -12,26 +12,26 @@ use lib.ListN.{length, get_or}
 use lib.Pow.{pow_mono, pow_pos}
 use mir.Syntax.{w32}
 use mir.Val.{Fits}
-use Rattle.folds.proofs.Below.{lt-or-ge}
+use Rattle.folds.proofs.Below.{lt_or_ge}
 use Rattle.sets.specs.Sets.{bit, weight, Before}
-use Rattle.sets.specs.Inner.{weightIn, Shares}
-use Rattle.sets.proofs.Bits.{bit-cases, mod-in, mod-out, bit-low, bit_high, bit_below, top_lt, top_below}
+use Rattle.sets.specs.Inner.{weight_in, Shares}
+use Rattle.sets.proofs.Bits.{bit_cases, mod_in, mod_out, bit_low, bit_high, bit_below, top_lt, top_below}
 use Rattle.sets.proofs.Order.{precedes-weight}
 use Rattle.sets.proofs.Weight.{weight-top, weight-most}
-use Rattle.sets.proofs.Shared.{shares, shares-not}
+use Rattle.sets.proofs.Shared.{shares, shares_not}
 use Rattle.choice.specs.declared.search.Found.{Found}
 use Rattle.choice.specs.declared.search.Found.TheVariants.{Set, Nothing}
-use Rattle.choice.specs.Search.{Positive, Weights, FirstUnhit, Node, Open, NoneBelow, NeedsMore, Best, limitAfter, or_else}
+use Rattle.choice.specs.Search.{Positive, Weights, FirstUnhit, Node, Open, NoneBelow, NeedsMore, Best, limit_after, or_else}
 use Rattle.choice.proofs.Weights.{agreed-weight, agreed-same}
 
 -- two sets that agree below t, with t in the first alone
 before_at : (s s' t : ℕ) → s % 2 ^ t ≡ s' % 2 ^ t → bit s t ≡ 1 → bit s' t ≡ 0 → Before s s'
-before_at s s' t e a b = (t, a, b, λ j l. sym (bit-low s t j l) ∙ ap (λ (x : ℕ). bit x j) e ∙ bit-low s' t j l)
+before_at s s' t e a b = (t, a, b, λ j l. sym (bit_low s t j l) ∙ ap (λ (x : ℕ). bit x j) e ∙ bit_low s' t j l)
 
 -- the weight of a set that is found
-abbrev weightOr : Found → ℕ → ℕ
-weightOr (Set s n) limit = n
-weightOr Nothing limit = limit
+abbrev weight_or : Found → ℕ → ℕ
+weight_or (Set s n) limit = n
+weight_or Nothing limit = limit
 
 module _ (w : ℕ → ℕ) (masks : List ℕ) (keep t chosen : ℕ) where
   open-limit : (limit limit' s : ℕ) → Open w masks keep t chosen limit s → weight w s < limit' → Open w masks keep t chosen limit' s
@@ -42,7 +42,7 @@ module _ (w : ℕ → ℕ) (masks : List ℕ) (keep t chosen : ℕ) where
   best-raised limit limit' s n l b = (
     open-limit limit limit' s b.0 (omega (arith, b.0.light)),
     b.1,
-    λ s' o. ⊎_elim (λ h. b.2 s' (open-limit limit' limit s' o h)) (λ h. inl (omega (arith, b.0.light))) (lt-or-ge (weight w s') limit),
+    λ s' o. ⊎_elim (λ h. b.2 s' (open-limit limit' limit s' o h)) (λ h. inl (omega (arith, b.0.light))) (lt_or_ge (weight w s') limit),
   )
 
   -- the same for the set and the limits as the code has them
@@ -52,7 +52,7 @@ module _ (w : ℕ → ℕ) (masks : List ℕ) (keep t chosen : ℕ) where
   open-in-down : (limit s : ℕ) → bit s t ≡ 1 → Open w masks keep t chosen limit s → Open w masks keep (t + 1) (chosen + 2 ^ t) limit s
   open-in-down limit s e o = record {
     below = o.below;
-    agrees = rw add-one (omega (arith, mod-in s t e, o.agrees));
+    agrees = rw add-one (omega (arith, mod_in s t e, o.agrees));
     keeps = λ i l. o.keeps i (omega arith);
     hits = o.hits;
     light = o.light;
@@ -61,7 +61,7 @@ module _ (w : ℕ → ℕ) (masks : List ℕ) (keep t chosen : ℕ) where
   open-out-down : (limit s : ℕ) → bit s t ≡ 0 → Open w masks keep t chosen limit s → Open w masks keep (t + 1) chosen limit s
   open-out-down limit s e o = record {
     below = o.below;
-    agrees = rw add-one (mod-out s t e ∙ o.agrees);
+    agrees = rw add-one (mod_out s t e ∙ o.agrees);
     keeps = λ i l. o.keeps i (omega arith);
     hits = o.hits;
     light = o.light;
@@ -71,12 +71,12 @@ module _ (w : ℕ → ℕ) (masks : List ℕ) (keep t chosen : ℕ) where
     in-agrees : (s : ℕ) → s % 2 ^ (t + 1) ≡ chosen + 2 ^ t → (bit s t ≡ 1) × (s % 2 ^ t ≡ chosen)
     in-agrees s h =
         let g : s % 2 ^ suc t ≡ chosen + 2 ^ t = rw add-one at h in
-        ⊎_elim (λ e. absurd (omega (arith, mod-out s t e, mod-lt s (pow_pos t)))) (λ e. (e, omega (arith, mod-in s t e))) (bit-cases s t)
+        ⊎_elim (λ e. absurd (omega (arith, mod_out s t e, mod-lt s (pow_pos t)))) (λ e. (e, omega (arith, mod_in s t e))) (bit_cases s t)
 
     out-agrees : (s : ℕ) → s % 2 ^ (t + 1) ≡ chosen → (bit s t ≡ 0) × (s % 2 ^ t ≡ chosen)
     out-agrees s h =
         let g : s % 2 ^ suc t ≡ chosen = rw add-one at h in
-        ⊎_elim (λ e. (e, omega (arith, mod-out s t e))) (λ e. absurd (omega (arith, mod-in s t e))) (bit-cases s t)
+        ⊎_elim (λ e. (e, omega (arith, mod_out s t e))) (λ e. absurd (omega (arith, mod_in s t e))) (bit_cases s t)
 
     open-in-up : (limit s : ℕ) → bit keep t ≡ 1 → Open w masks keep (t + 1) (chosen + 2 ^ t) limit s → Open w masks keep t chosen limit s
     open-in-up limit s k o = record {
@@ -103,20 +103,20 @@ module _ (w : ℕ → ℕ) (masks : List ℕ) (keep t chosen : ℕ) where
     best-skip limit (Set s n) k b = (
       open-out-up limit s b.0,
       b.1,
-      λ s' o. b.2 s' (open-out-down limit s' (⊎_elim (λ e. e) (λ e. absurd (omega (arith, o.keeps t (omega arith) e))) (bit-cases s' t)) o),
+      λ s' o. b.2 s' (open-out-down limit s' (⊎_elim (λ e. e) (λ e. absurd (omega (arith, o.keeps t (omega arith) e))) (bit_cases s' t)) o),
     )
     best-skip limit Nothing k b = λ s' o.
-        b s' (open-out-down limit s' (⊎_elim (λ e. e) (λ e. absurd (omega (arith, o.keeps t (omega arith) e))) (bit-cases s' t)) o)
+        b s' (open-out-down limit s' (⊎_elim (λ e. e) (λ e. absurd (omega (arith, o.keeps t (omega arith) e))) (bit_cases s' t)) o)
 
     -- test t is keep: `first` is the best with t in, `later` the best with t out and lighter than `first`
     best-join : (limit : ℕ) (first later : Found) → bit keep t ≡ 1 → Best w masks keep (t + 1) (chosen + 2 ^ t) limit first
-        → Best w masks keep (t + 1) chosen (weightOr first limit) later → Best w masks keep t chosen limit (or_else later first)
+        → Best w masks keep (t + 1) chosen (weight_or first limit) later → Best w masks keep t chosen limit (or_else later first)
     best-join limit (Set s n) (Set r m) k a b = (
       open-limit n limit r (open-out-up n r b.0) (omega (arith, b.0.light, a.1, a.0.light)),
       b.1,
       λ s' o. ⊎_elim
-          (λ e. ⊎_elim (λ l. b.2 s' (open-out-down n s' e (open-limit limit n s' o l))) (λ l. inl (omega (arith, b.0.light))) (lt-or-ge (weight w s') n))
-          (λ e. inl (omega (arith, b.0.light, a.1, precedes-weight w s s' (a.2 s' (open-in-down limit s' e o))))) (bit-cases s' t),
+          (λ e. ⊎_elim (λ l. b.2 s' (open-out-down n s' e (open-limit limit n s' o l))) (λ l. inl (omega (arith, b.0.light))) (lt_or_ge (weight w s') n))
+          (λ e. inl (omega (arith, b.0.light, a.1, precedes-weight w s s' (a.2 s' (open-in-down limit s' e o))))) (bit_cases s' t),
     )
     best-join limit (Set s n) Nothing k a b = (
       open-in-up limit s k a.0,
@@ -125,16 +125,16 @@ module _ (w : ℕ → ℕ) (masks : List ℕ) (keep t chosen : ℕ) where
           (λ e. ⊎_elim (λ l. absurd (b s' (open-out-down n s' e (open-limit limit n s' o l))))
           (λ l. ⊎_elim
           (λ q. inr (sym a.1 ∙ q, inr (before_at s s' t ((in-agrees s a.0.agrees).1 ∙ sym o.agrees) (in-agrees s a.0.agrees).0 e)))
-          (λ g. inl (omega (arith, a.1))) (eq-or-lt_of_le l)) (lt-or-ge (weight w s') n))
-          (λ e. a.2 s' (open-in-down limit s' e o)) (bit-cases s' t),
+          (λ g. inl (omega (arith, a.1))) (eq-or-lt_of_le l)) (lt_or_ge (weight w s') n))
+          (λ e. a.2 s' (open-in-down limit s' e o)) (bit_cases s' t),
     )
     best-join limit Nothing (Set r m) k a b = (
       open-out-up limit r b.0,
       b.1,
-      λ s' o. ⊎_elim (λ e. b.2 s' (open-out-down limit s' e o)) (λ e. absurd (a s' (open-in-down limit s' e o))) (bit-cases s' t),
+      λ s' o. ⊎_elim (λ e. b.2 s' (open-out-down limit s' e o)) (λ e. absurd (a s' (open-in-down limit s' e o))) (bit_cases s' t),
     )
     best-join limit Nothing Nothing k a b = λ s' o.
-        ⊎_elim (λ e. b s' (open-out-down limit s' e o)) (λ e. a s' (open-in-down limit s' e o)) (bit-cases s' t)
+        ⊎_elim (λ e. b s' (open-out-down limit s' e o)) (λ e. a s' (open-in-down limit s' e o)) (bit_cases s' t)
 
     -- no set below the floor at the nodes below
     pub none_in : (floor : ℕ) → bit keep t ≡ 1 → NoneBelow w masks keep t chosen floor → NoneBelow w masks keep (t + 1) (chosen + 2 ^ t) floor
@@ -145,7 +145,7 @@ module _ (w : ℕ → ℕ) (masks : List ℕ) (keep t chosen : ℕ) where
 
     -- the same for the answer as the code has it: where `first` weighs no more than the floor, no set is lighter
     pub best-joined : (limit floor : ℕ) (first later r : Found) → NoneBelow w masks keep t chosen floor → r ≡ or_else later first → bit keep t ≡ 1
-        → Best w masks keep (t + 1) (chosen + 2 ^ t) limit first → Best w masks keep (t + 1) chosen (limitAfter first limit floor) later → Best w masks keep t chosen limit r
+        → Best w masks keep (t + 1) (chosen + 2 ^ t) limit first → Best w masks keep (t + 1) chosen (limit_after first limit floor) later → Best w masks keep t chosen limit r
     best-joined limit floor first later r h e k a b = rw e (go first later a b)
       where
         at-floor : (s n : ℕ) (later : Found) → n ≤ floor → Best w masks keep (t + 1) (chosen + 2 ^ t) limit (Set s n)
@@ -154,11 +154,11 @@ module _ (w : ℕ → ℕ) (masks : List ℕ) (keep t chosen : ℕ) where
         at-floor s n Nothing l a b = best-join limit (Set s n) Nothing k a (λ s' o. h.none s' (open-limit n floor s' (open-out-up n s' o) (omega (arith, o.light))))
 
         go : (first later : Found) → Best w masks keep (t + 1) (chosen + 2 ^ t) limit first
-            → Best w masks keep (t + 1) chosen (limitAfter first limit floor) later → Best w masks keep t chosen limit (or_else later first)
+            → Best w masks keep (t + 1) chosen (limit_after first limit floor) later → Best w masks keep t chosen limit (or_else later first)
         go (Set s n) later a b = ⊎_elim
             (λ (l : floor < n). best-join limit (Set s n) later k a (rw (lt-leb n floor l) at b))
             (λ (l : n ≤ floor). at-floor s n later l a (rw (le-leb n floor l) at b))
-            (lt-or-ge floor n)
+            (lt_or_ge floor n)
         go Nothing later a b = best-join limit Nothing later k a b
 
 -- ---- the floor
@@ -171,18 +171,18 @@ module _ (w : ℕ → ℕ) (masks : List ℕ) (keep t chosen : ℕ) where
   none_found limit r e b = record { none = rw e at b }
 
 module _ (first : Found) (limit floor s n : ℕ) (e : first ≡ Set s n) where
-  pub limit-none : n ≤ floor → 0 ≡ limitAfter first limit floor
+  pub limit-none : n ≤ floor → 0 ≡ limit_after first limit floor
   limit-none l = rw (e, le-leb n floor l)
 
-  pub limit-found : floor < n → n ≡ limitAfter first limit floor
+  pub limit-found : floor < n → n ≡ limit_after first limit floor
   limit-found l = rw (e, lt-leb n floor l)
 
 -- every test is decided, and a mask is not hit
-pub best-end : (w : ℕ → ℕ) (masks : List ℕ) (keep t chosen limit at : ℕ) → at < length masks → bit_and (get_or masks at 0) chosen ≡ 0 → t ≡ 24
+pub best_end : (w : ℕ → ℕ) (masks : List ℕ) (keep t chosen limit at : ℕ) → at < length masks → bit_and (get_or masks at 0) chosen ≡ 0 → t ≡ 24
     → Best w masks keep t chosen limit Nothing
-best-end w masks keep t chosen limit at h z e s' o =
+best_end w masks keep t chosen limit at h z e s' o =
     let same : s' ≡ chosen = sym (mod-eq_of_lt o.below) ∙ (rw e at o.agrees) in
-    shares-not (get_or masks at 0) chosen z (rw same at (o.hits at h))
+    shares_not (get_or masks at 0) chosen z (rw same at (o.hits at h))
 
 module _ (w : ℕ → ℕ) (masks : List ℕ) (from t chosen used : ℕ) (node : Node w masks from t chosen used) where
   -- the limit leaves no room
@@ -195,7 +195,7 @@ module _ (w : ℕ → ℕ) (masks : List ℕ) (from t chosen used : ℕ) (node :
 
   module _ (at : ℕ) (unhit : FirstUnhit masks from chosen at) where
     hit-to : (k : ℕ) → k < at → Shares (get_or masks k 0) chosen
-    hit-to k l = ⊎_elim (λ h. node.hit k h) (λ h. shares (get_or masks k 0) chosen (unhit.passed k h l)) (lt-or-ge k from)
+    hit-to k l = ⊎_elim (λ h. node.hit k h) (λ h. shares (get_or masks k 0) chosen (unhit.passed k h l)) (lt_or_ge k from)
 
     -- every mask is hit
     pub best-hit : Positive w → (keep limit : ℕ) → at ≡ length masks → used < limit → Best w masks keep t chosen limit (Set chosen used)
@@ -233,5 +233,5 @@ module _ (w : ℕ → ℕ) (masks : List ℕ) (from t chosen used : ℕ) (node :
     }
 
 -- the weight that a node has used fits 32 bits
-pub used-fits : (ws : List ℕ) → Weights ws → (masks : List ℕ) (from t chosen used : ℕ) → Node (weightIn ws) masks from t chosen used → Fits w32 used
-used-fits ws fit masks from t chosen used node = omega (arith, node.weighed, weight-most (weightIn ws) chosen, fit.fit)
+pub used_fits : (ws : List ℕ) → Weights ws → (masks : List ℕ) (from t chosen used : ℕ) → Node (weight_in ws) masks from t chosen used → Fits w32 used
+used_fits ws fit masks from t chosen used node = omega (arith, node.weighed, weight-most (weight_in ws) chosen, fit.fit)

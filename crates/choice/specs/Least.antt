@@ -9,8 +9,8 @@ use Rattle.sets.specs.Sets.{size}
 -- ---- by rising size
 
 -- no size
-unfoldable pub noSizes : List ℕ
-noSizes = replicate 1830 0
+unfoldable pub no_sizes : List ℕ
+no_sizes = replicate 1830 0
 
 module _ (masks : List ℕ) (keep : ℕ) where
   -- the kept tests of mask k
@@ -34,7 +34,7 @@ module _ (masks : List ℕ) (keep : ℕ) where
 
   -- the sizes, zeros behind them
   unfoldable pub sizesOf : List ℕ
-  sizesOf = onto (listed size_at (length masks)) noSizes
+  sizesOf = onto (listed size_at (length masks)) no_sizes
 
 -- ---- those that contain no other
 
@@ -42,26 +42,26 @@ module _ (masks : List ℕ) (keep : ℕ) where
 unfoldable pub inside : ℕ → ℕ → Bool
 inside x m = eqb (bit_and m x) m
 
-unfoldable pub insideAt : List ℕ → ℕ → ℕ → Bool
-insideAt xs x k = inside x (get_or xs k 0)
+unfoldable pub inside_at : List ℕ → ℕ → ℕ → Bool
+inside_at xs x k = inside x (get_or xs k 0)
 
 -- a mask of the list is contained in x
-unfoldable pub containsOne : List ℕ → ℕ → Bool
-containsOne xs x = some (insideAt xs x) (length xs)
+unfoldable pub contains_one : List ℕ → ℕ → Bool
+contains_one xs x = some (inside_at xs x) (length xs)
 
 -- the list, with x behind it where it contains none of the list
 unfoldable pub next : List ℕ → ℕ → List ℕ
-next xs x = whether (containsOne xs x) xs (xs ++ (x ∷ []))
+next xs x = whether (contains_one xs x) xs (xs ++ (x ∷ []))
 
 -- of the first i masks, taken one after the other
-unfoldable pub leastTo : List ℕ → ℕ → List ℕ
-leastTo xs zero = []
-leastTo xs (suc i) = next (leastTo xs i) (get_or xs i 0)
+unfoldable pub least_to : List ℕ → ℕ → List ℕ
+least_to xs zero = []
+least_to xs (suc i) = next (least_to xs i) (get_or xs i 0)
 
 -- by rising size, each taken only if it contains none that is taken already
-unfoldable pub leastMasks : List ℕ → ℕ → List ℕ
-leastMasks masks keep = leastTo (by_size masks keep) (length (by_size masks keep))
+unfoldable pub least_masks : List ℕ → ℕ → List ℕ
+least_masks masks keep = least_to (by_size masks keep) (length (by_size masks keep))
 
 -- each entry is 0, or contains a mask of the list
 pub record Seen (xs seen : List ℕ) : Type 0 where
-  pub each : (k : ℕ) → (get_or seen k 0 ≡ 0) ⊎ (containsOne xs (get_or seen k 0) ≡ true)
+  pub each : (k : ℕ) → (get_or seen k 0 ≡ 0) ⊎ (contains_one xs (get_or seen k 0) ≡ true)

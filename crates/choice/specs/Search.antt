@@ -4,7 +4,7 @@ use Rattle.std.specs.Prelude.{List, ◌≡◌, ℕ, ◌+◌, ◌%◌, ◌^◌, �
 use Rattle.std.specs.Int.Bits.{bit_and}
 use Rattle.folds.specs.Fold.{whether, total}
 use Rattle.sets.specs.Sets.{bit, weight, Precedes}
-use Rattle.sets.specs.Inner.{weightIn, Shares}
+use Rattle.sets.specs.Inner.{weight_in, Shares}
 use Rattle.cover.specs.Masks.{Hits}
 use Rattle.choice.specs.declared.search.Found.{Found}
 use Rattle.choice.specs.declared.search.Found.TheVariants.{Set, Nothing}
@@ -15,8 +15,8 @@ Positive w = (t : ℕ) → t < 24 → 0 < w t
 
 -- a list of weights of which each is positive, and all together with 1 more fit 32 bits
 pub record Weights (ws : List ℕ) : Type 0 where
-  pub positive : Positive (weightIn ws)
-  pub fit : total (weightIn ws) 24 + 1 < 2 ^ 32
+  pub positive : Positive (weight_in ws)
+  pub fit : total (weight_in ws) 24 + 1 < 2 ^ 32
 
 -- the first mask from `from` on that shares nothing with s is at r, or r is the length
 pub record FirstUnhit (masks : List ℕ) (from s r : ℕ) : Type 0 where
@@ -26,9 +26,9 @@ pub record FirstUnhit (masks : List ℕ) (from s r : ℕ) : Type 0 where
   pub stopped : r < length masks → bit_and (get_or masks r 0) s ≡ 0
 
 -- the limit once `first` is found: its weight, so that only a lighter set takes its place; 0 where none is lighter
-abbrev pub limitAfter : Found → ℕ → ℕ → ℕ
-limitAfter (Set s n) limit floor = whether (leb n floor) 0 n
-limitAfter Nothing limit floor = limit
+abbrev pub limit_after : Found → ℕ → ℕ → ℕ
+limit_after (Set s n) limit floor = whether (leb n floor) 0 n
+limit_after Nothing limit floor = limit
 
 -- `later` where it is a set, else `first`
 abbrev pub or_else : Found → Found → Found

@@ -1,7 +1,7 @@
 // The masks that the search is given: few of them, as most repeat or contain another.
 ghost use Rattle.std.specs.Prelude.{◌≡◌, ◌%◌, ◌^◌, ◌≤◌, ◌<◌, length, set};
 ghost use Rattle.folds.specs.Fold.{onto};
-ghost use Rattle.choice.specs.Least.{sizeRow, by_size, sizesOf, inside, containsOne, leastTo, leastMasks, Seen};
+ghost use Rattle.choice.specs.Least.{sizeRow, by_size, sizesOf, inside, contains_one, least_to, least_masks, Seen};
 
 // The size of each mask, cut to the kept tests; zero past them.
 fn sizes_of(masks: &[u32], kept: u32) -> [u8; 1830]
@@ -67,7 +67,7 @@ fn inside(mask: u32, other: u32) -> bool
 
 // Whether the mask contains one of those that are taken.
 fn contains_one(taken: &[u32], mask: u32) -> bool
-    ensures { result ≡ containsOne taken.now mask }
+    ensures { result ≡ contains_one taken.now mask }
 {
     let mut i: usize = 0;
     while i < taken.len() {
@@ -82,7 +82,7 @@ fn contains_one(taken: &[u32], mask: u32) -> bool
 // The same, at once for a mask that was seen lately: it was taken, or contained one that was.
 fn seen_or_contains(taken: &[u32], mask: u32, seen: &mut [u32; 761]) -> bool
     requires { Seen taken.now seen.old }
-    ensures value { result ≡ containsOne taken.now mask }
+    ensures value { result ≡ contains_one taken.now mask }
     ensures seen_after { seen.new ≡ set seen.old (mask % 761) mask }
 {
     let at = (mask % 761) as usize;
@@ -99,8 +99,8 @@ fn seen_or_contains(taken: &[u32], mask: u32, seen: &mut [u32; 761]) -> bool
 
 // Moves those that contain none before them to the front; returns how many they are.
 fn least_first(masks: &mut [u32]) -> usize
-    ensures value { result ≡ length (leastTo masks.old (length masks.old)) }
-    ensures masks_after { masks.new ≡ onto (leastTo masks.old (length masks.old)) masks.old }
+    ensures value { result ≡ length (least_to masks.old (length masks.old)) }
+    ensures masks_after { masks.new ≡ onto (least_to masks.old (length masks.old)) masks.old }
 {
     let mut seen: [u32; 761] = [0; 761];
     let mut n: usize = 0;
@@ -119,8 +119,8 @@ fn least_first(masks: &mut [u32]) -> usize
 // Writes the masks that the search is given; returns how many they are.
 pub fn least_masks(masks: &[u32], kept: u32, row: &mut [u32]) -> usize
     requires { (length masks.now ≤ 1830) × (kept < 2 ^ 24) × (length row.old ≡ length masks.now) }
-    ensures value { result ≡ length (leastMasks masks.now kept) }
-    ensures row_after { row.new ≡ onto (leastMasks masks.now kept) (by_size masks.now kept) }
+    ensures value { result ≡ length (least_masks masks.now kept) }
+    ensures row_after { row.new ≡ onto (least_masks masks.now kept) (by_size masks.now kept) }
 {
     by_size(masks, kept, row);
     least_first(row)

@@ -2,7 +2,7 @@
 ghost use Rattle.std.specs.Prelude.{◌≡◌};
 ghost use Rattle.table.specs.WellFormed.{WellFormed};
 ghost use Rattle.choice.specs.ChoiceIs.{ChoiceIs};
-ghost use Rattle.choice.specs.Found.{Weighs, Sought, withinCap};
+ghost use Rattle.choice.specs.Found.{Weighs, Sought, within_cap};
 ghost use Rattle.choice.specs.Search.{Weights};
 
 use search::Found;
@@ -36,7 +36,7 @@ fn chosen_for(table: Table, goal: Goal) -> Found
 
 // The set that was found, where it weighs no more than the cap.
 fn within_cap(found: Found, cap: u32) -> Chosen
-    ensures { result ≡ withinCap found cap }
+    ensures { result ≡ within_cap found cap }
 {
     match found {
         Found::Set(set, weight) => if weight <= cap {

@@ -1,8 +1,8 @@
 // The search for the first of the lightest sets of kept tests that share a test with every mask.
 ghost use Rattle.std.specs.Prelude.{◌≡◌, ◌+◌, ◌^◌, ◌≤◌, ◌<◌, length};
 ghost use Rattle.folds.specs.Fold.{total};
-ghost use Rattle.sets.specs.Inner.{weightIn};
-ghost use Rattle.choice.specs.Search.{Weights, FirstUnhit, Node, RestOf, NoneBelow, NeedsMore, Best, limitAfter, or_else};
+ghost use Rattle.sets.specs.Inner.{weight_in};
+ghost use Rattle.choice.specs.Search.{Weights, FirstUnhit, Node, RestOf, NoneBelow, NeedsMore, Best, limit_after, or_else};
 
 // A set of tests with its weight, or nothing.
 #[derive(Drop)]
@@ -14,7 +14,7 @@ pub enum Found {
 // The weight of all tests together.
 fn weight_of_all(weights: &[u32; 24]) -> u32
     requires { Weights weights.now }
-    ensures { result ≡ total (weightIn weights.now) 24 }
+    ensures { result ≡ total (weight_in weights.now) 24 }
 {
     let mut sum: u32 = 0;
     let mut t: usize = 0;
@@ -42,7 +42,7 @@ fn first_unhit(masks: &[u32], from: usize, chosen: u32) -> usize
 
 // The limit for the sets that come later: the weight of the one found, or 0 where no set weighs less.
 fn limit_after(first: Found, limit: u32, floor: u32) -> u32
-    ensures { result ≡ limitAfter first limit floor }
+    ensures { result ≡ limit_after first limit floor }
 {
     match first {
         Found::Set(_, weight) => if weight <= floor { 0 } else { weight },
@@ -102,8 +102,8 @@ fn best<'a>(
     limit: u32,
     floor: u32,
 ) -> Found
-    requires { Weights weights.now × Node (weightIn weights.now) masks.now from t chosen used × NoneBelow (weightIn weights.now) masks.now kept t chosen floor }
-    ensures { Best (weightIn weights.now) masks.now kept t chosen limit result }
+    requires { Weights weights.now × Node (weight_in weights.now) masks.now from t chosen used × NoneBelow (weight_in weights.now) masks.now kept t chosen floor }
+    ensures { Best (weight_in weights.now) masks.now kept t chosen limit result }
 {
     if limit <= used {
         return Found::Nothing;
@@ -133,7 +133,7 @@ fn best<'a>(
 // weighs more than all tests.
 pub fn lightest<'a>(masks: &'a [u32], weights: &'a [u32; 24], kept: u32) -> Found
     requires { Weights weights.now }
-    ensures { Best (weightIn weights.now) masks.now kept 0 0 (total (weightIn weights.now) 24 + 1) result }
+    ensures { Best (weight_in weights.now) masks.now kept 0 0 (total (weight_in weights.now) 24 + 1) result }
 {
     let all = weight_of_all(weights);
     let mut floor: u32 = 0;

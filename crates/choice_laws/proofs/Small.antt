@@ -10,20 +10,20 @@ use lib.Dec.{eqb, ltb}
 use lib.ListN.{length, get_or}
 use Rattle.folds.specs.Fold.{always, both, either, every, joined, single, total}
 use Rattle.folds.specs.Some.{some}
-use Rattle.folds.proofs.Bools.{both_left, both_right, either-cases, either_second}
-use Rattle.folds.proofs.Every.{every-at, every_of}
+use Rattle.folds.proofs.Bools.{both_left, both_right, either_cases, either_second}
+use Rattle.folds.proofs.Every.{every_at, every_of}
 use Rattle.folds.proofs.Some.{some_at}
 use Rattle.sets.specs.Sets.{bit, has, one, share, weight, Within, Before, Precedes}
 use Rattle.sets.specs.Inner.{within}
-use Rattle.sets.specs.Collect.{setOf, setWith}
-use Rattle.sets.proofs.Bits.{has-bit, lacks-bit, within-tells, below-of-bits}
-use Rattle.sets.proofs.Shared.{shares, shares-not}
+use Rattle.sets.specs.Collect.{set_of, set_with}
+use Rattle.sets.proofs.Bits.{has_bit, lacks_bit, within_tells, below_of_bits}
+use Rattle.sets.proofs.Shared.{shares, shares_not}
 use Rattle.table.specs.Table.{agrees, cell_at, place_of, separates}
 use Rattle.table.specs.declared.Goal.{Goal}
 use Rattle.table.specs.declared.Table.{Table}
-use Rattle.terms.specs.Choice.{testWeight, Choice}
+use Rattle.terms.specs.Choice.{test_weight, Choice}
 use Rattle.terms.specs.Terms.{TestOf, Reaches}
-use Rattle.cover.specs.Masks.{Hits, counts, goalMask, goalPair, mask_of, maskRow, masksOf}
+use Rattle.cover.specs.Masks.{Hits, counts, goalMask, goal_pair, mask_of, maskRow, masks_of}
 use Rattle.cover.proofs.Goals.{hits-reaches, reaches-hits}
 
 -- ---- the order of sets
@@ -41,9 +41,9 @@ module _ (s s' : ℕ) where
   leads t h =
       let rest : both (not (has s' t)) (every sameIn t) ≡ true = both_right (has s t) _ h in (
         t,
-        has-bit s t (both_left (has s t) _ h),
-        lacks-bit s' t (not-true _ (both_left (not (has s' t)) _ rest)),
-        λ u l. eqb-true _ _ (every-at sameIn t u (both_right (not (has s' t)) _ rest) l),
+        has_bit s t (both_left (has s t) _ h),
+        lacks_bit s' t (not-true _ (both_left (not (has s' t)) _ rest)),
+        λ u l. eqb-true _ _ (every_at sameIn t u (both_right (not (has s' t)) _ rest) l),
       )
 
 module _ (w : ℕ → ℕ) (s s' : ℕ) where
@@ -60,9 +60,9 @@ module _ (w : ℕ → ℕ) (s s' : ℕ) where
         ⊎_elim
             (λ same. inl (eqb-true s s' same))
             (λ d. let l = some_at (leadsIn s s') 24 d in inr (leads s s' l.0 l.2))
-            (either-cases (eqb s s') _ (both_right (eqb (weight w s) (weight w s')) _ e)),
+            (either_cases (eqb s s') _ (both_right (eqb (weight w s) (weight w s')) _ e)),
       ))
-      (either-cases (ltb (weight w s) (weight w s')) _ h)
+      (either_cases (ltb (weight w s) (weight w s')) _ h)
 
 -- ---- sets that hit every mask
 
@@ -76,11 +76,11 @@ module _ (masks : List ℕ) where
 
   hits-all : (s : ℕ) → hits s ≡ true → Hits masks s
   unfolding hits hitsAt
-  hits-all s h k l = shares (get_or masks k 0) s (eqb-false _ _ (not-true _ (every-at (hitsAt s) (length masks) k h l)))
+  hits-all s h k l = shares (get_or masks k 0) s (eqb-false _ _ (not-true _ (every_at (hitsAt s) (length masks) k h l)))
 
   all-hits : (s : ℕ) → Hits masks s → hits s ≡ true
   unfolding hits hitsAt
-  all-hits s h = every_of (hitsAt s) (length masks) (λ k l. rw (ne_eqb (bit_and (get_or masks k 0) s) 0 (λ e. shares-not (get_or masks k 0) s e (h k l))))
+  all-hits s h = every_of (hitsAt s) (length masks) (λ k l. rw (ne_eqb (bit_and (get_or masks k 0) s) 0 (λ e. shares_not (get_or masks k 0) s e (h k l))))
 
   -- s does not hit every mask, or has p
   unfoldable pub hitting : (ℕ → Bool) → ℕ → Bool
@@ -91,29 +91,29 @@ module _ (masks : List ℕ) where
 module _ (tb : Table) (goal : Goal) where
   -- every set of the table's tests that reaches the goal has p
   unfoldable pub eachReaching : (ℕ → Bool) → Bool
-  eachReaching p = every (hitting (masksOf tb goal) p) (2 ^ tb.tests)
+  eachReaching p = every (hitting (masks_of tb goal) p) (2 ^ tb.tests)
 
   pub each-reaching : (p : ℕ → Bool) → eachReaching p ≡ true → (s : ℕ) → Within (TestOf tb) s → Reaches tb goal s → p s ≡ true
   unfolding eachReaching hitting
   each-reaching p h s w r =
-      either_second (not (hits (masksOf tb goal) s)) (p s)
-      (every-at (hitting (masksOf tb goal) p) (2 ^ tb.tests) s h (below-of-bits tb.tests s w))
-      (rw (all-hits (masksOf tb goal) s (reaches-hits tb goal s r)))
+      either_second (not (hits (masks_of tb goal) s)) (p s)
+      (every_at (hitting (masks_of tb goal) p) (2 ^ tb.tests) s h (below_of_bits tb.tests s w))
+      (rw (all-hits (masks_of tb goal) s (reaches-hits tb goal s r)))
 
   unfoldable pub isChoice : ℕ → Bool
-  isChoice s = both (within s tb.tests) (both (hits (masksOf tb goal) s) (eachReaching (precedes (testWeight tb) s)))
+  isChoice s = both (within s tb.tests) (both (hits (masks_of tb goal) s) (eachReaching (precedes (test_weight tb) s)))
 
   pub choice-by : (s : ℕ) → isChoice s ≡ true → Choice tb goal s
   unfolding isChoice
   choice-by s h =
-      let rest : both (hits (masksOf tb goal) s) (eachReaching (precedes (testWeight tb) s)) ≡ true = both_right (within s tb.tests) _ h in
+      let rest : both (hits (masks_of tb goal) s) (eachReaching (precedes (test_weight tb) s)) ≡ true = both_right (within s tb.tests) _ h in
       record {
-        within = within-tells s tb.tests (both_left (within s tb.tests) _ h);
-        reaches = hits-reaches tb goal s (hits-all (masksOf tb goal) s (both_left (hits (masksOf tb goal) s) _ rest));
-        first = λ s' w r. precedes-by (testWeight tb) s s' (each-reaching (precedes (testWeight tb) s) (both_right (hits (masksOf tb goal) s) _ rest) s' w r);
+        within = within_tells s tb.tests (both_left (within s tb.tests) _ h);
+        reaches = hits-reaches tb goal s (hits-all (masks_of tb goal) s (both_left (hits (masks_of tb goal) s) _ rest));
+        first = λ s' w r. precedes-by (test_weight tb) s s' (each-reaching (precedes (test_weight tb) s) (both_right (hits (masks_of tb goal) s) _ rest) s' w r);
       }
 
 -- to unfold it is to unfold all that the test of a choice is computed by
 unfoldable pub choosing : Table → Goal → ℕ → Bool
-unfolding isChoice eachReaching hitting hits hitsAt precedes leadsIn sameIn within has total share one bit masksOf maskRow counts goalMask goalPair mask_of setOf setWith separates agrees joined single always every some cell_at place_of
+unfolding isChoice eachReaching hitting hits hitsAt precedes leadsIn sameIn within has total share one bit masks_of maskRow counts goalMask goal_pair mask_of set_of set_with separates agrees joined single always every some cell_at place_of
 choosing = isChoice

@@ -7,11 +7,11 @@ use lib.ListN.{get_or, set}
 use Rattle.folds.specs.Fold.{always, count, listed, onto}
 use Rattle.folds.proofs.Count.{count_yes, count_no}
 use Rattle.folds.proofs.Gather.{gather-end, listed_start, listed-store, listed_at}
-use Rattle.asks.proofs.Answers.{unlisted-length}
+use Rattle.asks.proofs.Answers.{unlisted_length}
 use Rattle.table.specs.Answers.{unlisted}
 use Rattle.terms.specs.Columns.{lowest, lowestOf, classNumber}
 use Rattle.terms_laws.proofs.Classes.{is-lowest, not-lowest, lowest-alike, class_same, class-of-lowest}
-use Rattle.classes.specs.Classes.{numbersOf}
+use Rattle.classes.specs.Classes.{numbers_of}
 
 module _ (out : ℕ → ℕ → ℕ) (tests : ℕ) where
   pub numbers-start : unlisted ≡ onto (listed (classNumber out tests) 0) unlisted
@@ -26,7 +26,7 @@ module _ (out : ℕ → ℕ → ℕ) (tests : ℕ) where
   old-number s s' i low n w u e f v g =
       let same : classNumber out tests low ≡ classNumber out tests i = rw f (sym (class_same out tests i (lowestOf out tests i) (lowest-alike out tests i))) in
       g
-      ∙ rw e (listed-store (classNumber out tests) i unlisted _ (omega (arith, unlisted-length)) (listed_at (classNumber out tests) i low unlisted v ∙ same))
+      ∙ rw e (listed-store (classNumber out tests) i unlisted _ (omega (arith, unlisted_length)) (listed_at (classNumber out tests) i low unlisted v ∙ same))
 
   -- the lowest column of a new class
   pub new-next : (i low k k' : ℕ) → k ≡ count (lowest out tests) i → low ≡ lowestOf out tests i → i ≤ low → k' ≡ k + 1 → k' ≡ count (lowest out tests) (i + 1)
@@ -36,8 +36,8 @@ module _ (out : ℕ → ℕ → ℕ) (tests : ℕ) where
       → k ≡ count (lowest out tests) i → s' ≡ set s i k → s' ≡ onto (listed (classNumber out tests) (i + 1)) unlisted
   new-number s s' i low k n w u e f v q g =
       g
-      ∙ rw e (listed-store (classNumber out tests) i unlisted k (omega (arith, unlisted-length)) (q ∙ sym (class-of-lowest out tests i (is-lowest out tests i (rw (← f) v)))))
+      ∙ rw e (listed-store (classNumber out tests) i unlisted k (omega (arith, unlisted_length)) (q ∙ sym (class-of-lowest out tests i (is-lowest out tests i (rw (← f) v)))))
 
-  pub numbers-end : (s : List ℕ) (i n : ℕ) → i ≤ n → n ≤ i → s ≡ onto (listed (classNumber out tests) i) unlisted → s ≡ numbersOf out tests n
-  unfolding numbersOf
+  pub numbers-end : (s : List ℕ) (i n : ℕ) → i ≤ n → n ≤ i → s ≡ onto (listed (classNumber out tests) i) unlisted → s ≡ numbers_of out tests n
+  unfolding numbers_of
   numbers-end s i n w u e = gather-end always (classNumber out tests) n i unlisted s e w u

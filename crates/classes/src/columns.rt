@@ -1,14 +1,14 @@
 // What the two calls give for the columns of a well-formed table.
 ghost use Rattle.std.specs.Prelude.{◌≡◌, ◌≤◌, ◌<◌};
 ghost use Rattle.table.specs.Table.{cell_at};
-ghost use Rattle.classes.specs.Classes.{numbersOf};
-ghost use Rattle.sets.specs.Collect.{setOf};
+ghost use Rattle.classes.specs.Classes.{numbers_of};
+ghost use Rattle.sets.specs.Collect.{set_of};
 ghost use Rattle.classes.specs.Undetected.{undetected};
 
 // The class number of each column, and zero past the last.
 pub fn numbers(cells: &[u8; 1464], tests: usize, columns: usize) -> [u8; 61]
     requires { (tests ≤ 24) × (columns ≤ 61) }
-    ensures { result ≡ numbersOf (cell_at cells.now) tests columns }
+    ensures { result ≡ numbers_of (cell_at cells.now) tests columns }
 {
     let mut of = [0u8; 61];
     let mut next: u8 = 0;
@@ -37,7 +37,7 @@ fn undetected(cells: &[u8; 1464], tests: usize, f: usize) -> bool
 // The set of those faults.
 pub fn undetected_set(cells: &[u8; 1464], tests: usize, faults: usize) -> u64
     requires { (tests ≤ 24) × (faults ≤ 60) }
-    ensures { result ≡ setOf (undetected (cell_at cells.now) tests) faults }
+    ensures { result ≡ set_of (undetected (cell_at cells.now) tests) faults }
 {
     let mut set: u64 = 0;
     let mut i = 0;

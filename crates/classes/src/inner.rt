@@ -3,7 +3,7 @@ ghost use Rattle.std.specs.Prelude.{◌≡◌, ◌≤◌, ◌<◌};
 ghost use Rattle.folds.specs.Fold.{count};
 ghost use Rattle.table.specs.Table.{cell_at};
 ghost use Rattle.terms.specs.Columns.{alike, apart, lowest, lowestOf};
-ghost use Rattle.sets.specs.Collect.{setOf};
+ghost use Rattle.sets.specs.Collect.{set_of};
 
 // Whether no test separates the columns a and b.
 pub fn alike(cells: &[u8; 1464], tests: usize, a: usize, b: usize) -> bool
@@ -77,7 +77,7 @@ pub fn class_count(cells: &[u8; 1464], tests: usize, columns: usize) -> usize
 // The set of the columns that are the lowest of their class: bit c for column c.
 pub fn lowest_set(cells: &[u8; 1464], tests: usize, columns: usize) -> u64
     requires { (tests ≤ 24) × (columns ≤ 61) }
-    ensures { result ≡ setOf (lowest (cell_at cells.now) tests) columns }
+    ensures { result ≡ set_of (lowest (cell_at cells.now) tests) columns }
 {
     let mut set: u64 = 0;
     let mut i = 0;

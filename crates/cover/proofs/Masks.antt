@@ -9,29 +9,29 @@ use lib.Dec.{eqb}
 use lib.ListN.{length}
 use Rattle.folds.specs.Fold.{count}
 use Rattle.folds.proofs.Bools.{clash}
-use Rattle.folds.proofs.Below.{lt-or-ge}
-use Rattle.folds.proofs.Count.{count-above}
+use Rattle.folds.proofs.Below.{lt_or_ge}
+use Rattle.folds.proofs.Count.{count_above}
 use Rattle.folds.proofs.Gather.{gather-length}
 use Rattle.table.specs.declared.Goal.{Goal}
 use Rattle.table.specs.declared.Goal.TheVariants.{Detect, Diagnose}
-use Rattle.cover.specs.Masks.{goalPair, mask_of, goalMask, counts, maskRow}
+use Rattle.cover.specs.Masks.{goal_pair, mask_of, goalMask, counts, maskRow}
 
 -- ---- the code's tests
 
-pub pair-not : (goal : Goal) (a b : ℕ) → b ≤ a → false ≡ goalPair goal a b
-unfolding goalPair
-pair-not Detect a b h = rw (le-ltb a b h)
-pair-not Diagnose a b h = sym (le-ltb a b h)
+pub pair_not : (goal : Goal) (a b : ℕ) → b ≤ a → false ≡ goal_pair goal a b
+unfolding goal_pair
+pair_not Detect a b h = rw (le-ltb a b h)
+pair_not Diagnose a b h = sym (le-ltb a b h)
 
-pub pair-detect : (goal : Goal) (a b : ℕ) → a < b → goal ≡ Detect → eqb a 0 ≡ goalPair goal a b
-unfolding goalPair
-pair-detect goal a b h e = rw (e, lt-ltb a b h)
+pub pair_detect : (goal : Goal) (a b : ℕ) → a < b → goal ≡ Detect → eqb a 0 ≡ goal_pair goal a b
+unfolding goal_pair
+pair_detect goal a b h e = rw (e, lt-ltb a b h)
 
-pub pair-diagnose : (goal : Goal) (a b : ℕ) → a < b → goal ≡ Diagnose → true ≡ goalPair goal a b
-unfolding goalPair
-pair-diagnose goal a b h e = rw e (sym (lt-ltb a b h))
+pub pair_diagnose : (goal : Goal) (a b : ℕ) → a < b → goal ≡ Diagnose → true ≡ goal_pair goal a b
+unfolding goal_pair
+pair_diagnose goal a b h e = rw e (sym (lt-ltb a b h))
 
-module _ (out : ℕ → ℕ → ℕ) (tests : ℕ) (goal : Goal) (a b : ℕ) (r : Bool) (e : r ≡ goalPair goal a b) where
+module _ (out : ℕ → ℕ → ℕ) (tests : ℕ) (goal : Goal) (a b : ℕ) (r : Bool) (e : r ≡ goal_pair goal a b) where
   pub goal-mask-none : not r ≡ true → 0 ≡ goalMask out tests goal a b
   unfolding goalMask
   goal-mask-none n = rw (← e, not-true r n)
@@ -54,13 +54,13 @@ module _ (out : ℕ → ℕ → ℕ) (tests : ℕ) (goal : Goal) (a b m : ℕ) (
 module _ (out : ℕ → ℕ → ℕ) (tests : ℕ) (goal : Goal) (a : ℕ) where
   counts-above : (b : ℕ) → counts out tests goal a b ≡ true → a < b
   unfolding counts goalMask
-  counts-above b h = ⊎_elim (λ l. l) (λ l. clash true refl (sym h ∙ rw (← pair-not goal a b l))) (lt-or-ge a b)
+  counts-above b h = ⊎_elim (λ l. l) (λ l. clash true refl (sym h ∙ rw (← pair_not goal a b l))) (lt_or_ge a b)
 
   pub row-few : (columns : ℕ) → length (maskRow out tests goal columns a) ≤ columns - (a + 1)
   unfolding maskRow
   row-few columns =
-      rw (gather-length (counts out tests goal a) (goalMask out tests goal a) columns) (count-above (counts out tests goal a) a counts-above columns)
+      rw (gather-length (counts out tests goal a) (goalMask out tests goal a) columns) (count_above (counts out tests goal a) a counts-above columns)
 
   -- there is room for one mask more
   pub row_room : (columns n i m : ℕ) → n ≡ count (counts out tests goal a) i → counts out tests goal a i ≡ true → i < columns → columns ≤ a + 1 + m → n < m
-  row_room columns n i m e h l k = omega (arith, count-above (counts out tests goal a) a counts-above i, counts-above i h)
+  row_room columns n i m e h l k = omega (arith, count_above (counts out tests goal a) a counts-above i, counts-above i h)

@@ -5,19 +5,19 @@ use Rattle.std.specs.Int.Bits.{bit_and}
 use Rattle.folds.specs.Fold.{both, either, every}
 use Rattle.folds.specs.Some.{some}
 use Rattle.sets.specs.Sets.{has}
-use Rattle.sets.specs.Collect.{setOf}
+use Rattle.sets.specs.Collect.{set_of}
 use Rattle.table.specs.declared.Goal.{Goal}
 use Rattle.table.specs.declared.Goal.TheVariants.{Detect}
 use Rattle.table.specs.declared.Table.{Table}
-use Rattle.cover.specs.Masks.{masksOf}
+use Rattle.cover.specs.Masks.{masks_of}
 
 -- the mask has test u where it has test t
 unfoldable pub follows : ℕ → ℕ → ℕ → Bool
 follows u t mask = either (not (has mask t)) (has mask u)
 
 -- test t is the mask's only kept test
-unfoldable pub maskIs : ℕ → ℕ → ℕ → Bool
-maskIs kept t mask = eqb (bit_and mask kept) (2 ^ t)
+unfoldable pub mask_is : ℕ → ℕ → ℕ → Bool
+mask_is kept t mask = eqb (bit_and mask kept) (2 ^ t)
 
 module _ (masks : List ℕ) where
   unfoldable pub has_at : ℕ → ℕ → Bool
@@ -27,7 +27,7 @@ module _ (masks : List ℕ) where
   followsAt u t k = follows u t (get_or masks k 0)
 
   unfoldable pub is_at : ℕ → ℕ → ℕ → Bool
-  is_at kept t k = maskIs kept t (get_or masks k 0)
+  is_at kept t k = mask_is kept t (get_or masks k 0)
 
   -- some mask has test t
   unfoldable pub used : ℕ → Bool
@@ -55,8 +55,8 @@ module _ (masks : List ℕ) where
 
 -- the tests that are kept for a goal
 unfoldable pub kept_set : Table → Goal → ℕ
-kept_set tb goal = setOf (kept (masksOf tb goal) tb.tests) tb.tests
+kept_set tb goal = set_of (kept (masks_of tb goal) tb.tests) tb.tests
 
 -- the tests that alone, of those in `keep`, separate some fault from column 0
-unfoldable pub loneSet : Table → ℕ → ℕ
-loneSet tb keep = setOf (lone (masksOf tb Detect) keep) tb.tests
+unfoldable pub lone_set : Table → ℕ → ℕ
+lone_set tb keep = set_of (lone (masks_of tb Detect) keep) tb.tests

@@ -3,8 +3,8 @@
 use Rattle.std.specs.Prelude.{Bool, not, List, ℕ, ◌<◌, eqb, ltb, length, get_or}
 use Rattle.folds.specs.Fold.{whether, both, joined, gather, always}
 use Rattle.sets.specs.Inner.{Shares}
-use Rattle.sets.specs.Collect.{setOf}
-use Rattle.table.specs.Table.{outputAt, columns, separates}
+use Rattle.sets.specs.Collect.{set_of}
+use Rattle.table.specs.Table.{output_at, columns, separates}
 use Rattle.table.specs.declared.Goal.{Goal}
 use Rattle.table.specs.declared.Goal.TheVariants.{Detect, Diagnose}
 use Rattle.table.specs.declared.Table.{Table}
@@ -14,20 +14,20 @@ abbrev pub Hits : List ℕ → ℕ → Type 0
 Hits masks s = (k : ℕ) → k < length masks → Shares (get_or masks k 0) s
 
 -- "Goal pairs. Detect: column 0 with each fault. Diagnose: every two columns." The lower column stands first.
-unfoldable pub goalPair : Goal → ℕ → ℕ → Bool
-goalPair Detect a b = both (ltb a b) (eqb a 0)
-goalPair Diagnose a b = ltb a b
+unfoldable pub goal_pair : Goal → ℕ → ℕ → Bool
+goal_pair Detect a b = both (ltb a b) (eqb a 0)
+goal_pair Diagnose a b = ltb a b
 
 module _ (out : ℕ → ℕ → ℕ) where
   module _ (tests : ℕ) where
     -- the tests that separate the columns a and b
     unfoldable pub mask_of : ℕ → ℕ → ℕ
-    mask_of a b = setOf (separates out a b) tests
+    mask_of a b = set_of (separates out a b) tests
 
     module _ (goal : Goal) where
       -- the same for a goal pair; none for any other pair
       unfoldable pub goalMask : ℕ → ℕ → ℕ
-      goalMask a b = whether (goalPair goal a b) (mask_of a b) 0
+      goalMask a b = whether (goal_pair goal a b) (mask_of a b) 0
 
       -- "Only those count which some test of the table separates."
       unfoldable pub counts : ℕ → ℕ → Bool
@@ -38,5 +38,5 @@ module _ (out : ℕ → ℕ → ℕ) where
       maskRow columns a = gather (counts a) (goalMask a) columns
 
 -- the masks of a goal's pairs that count, in rising order of the pairs, lower column first
-unfoldable pub masksOf : Table → Goal → List ℕ
-masksOf tb goal = joined always (maskRow (outputAt tb) tb.tests goal (columns tb)) (columns tb)
+unfoldable pub masks_of : Table → Goal → List ℕ
+masks_of tb goal = joined always (maskRow (output_at tb) tb.tests goal (columns tb)) (columns tb)

@@ -1,6 +1,6 @@
 // The masks of a goal, and the tests weighed by them, for the crates above.
 ghost use Rattle.std.specs.Prelude.{◌≡◌, ◌^◌, ◌≤◌, ◌<◌};
-ghost use Rattle.sets.specs.Collect.{setWith, setOf};
+ghost use Rattle.sets.specs.Collect.{set_with, set_of};
 ghost use Rattle.cover.specs.Filled.{Filled};
 ghost use Rattle.cover.specs.Kept.{kept};
 
@@ -16,7 +16,7 @@ pub struct Masks {
 // The set with test t, where it is to be in.
 pub fn set_with(set: u32, t: usize, inside: bool) -> u32
     requires { (t < 24) × (set < 2 ^ t) }
-    ensures { result ≡ setWith set t inside }
+    ensures { result ≡ set_with set t inside }
 {
     if inside { set + (1 << t) } else { set }
 }
@@ -43,7 +43,7 @@ pub fn masks_of(table: Table, goal: Goal) -> Masks
 // The tests that are not set aside.
 pub fn kept_tests(masks: &[u32], tests: usize) -> u32
     requires { tests ≤ 24 }
-    ensures { result ≡ setOf (kept masks.now tests) tests }
+    ensures { result ≡ set_of (kept masks.now tests) tests }
 {
     let mut set: u32 = 0;
     let mut i: usize = 0;

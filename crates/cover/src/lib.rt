@@ -1,7 +1,7 @@
 // Which tests separate the pairs of a goal; the tests that a goal sets aside, and the essential ones.
 ghost use Rattle.std.specs.Prelude.{◌≡◌, ◌≤◌};
 ghost use Rattle.cover.specs.Gives.{Gives, AsideTest};
-ghost use Rattle.cover.specs.Kept.{kept_set, loneSet};
+ghost use Rattle.cover.specs.Kept.{kept_set, lone_set};
 ghost use Rattle.terms.specs.Terms.{Essential};
 
 use table::{Chosen, Goal, Table, Verdict};
@@ -24,7 +24,7 @@ fn kept_for(table: Table, goal: Goal) -> u32
 // The kept tests that alone separate some fault from column 0.
 fn lone_for(table: Table, kept: u32) -> u32
     requires { (table.tests ≤ 24) × (table.faults ≤ 60) }
-    ensures { result ≡ loneSet table kept }
+    ensures { result ≡ lone_set table kept }
 {
     let masks = inner::masks_of(table, Goal::Detect);
     let n = masks.count;

@@ -2,7 +2,7 @@
 ghost use Rattle.std.specs.Prelude.{◌≡◌, ◌+◌, ◌≤◌, ◌<◌, length};
 ghost use Rattle.folds.specs.Fold.{onto};
 ghost use Rattle.table.specs.Table.{cell_at};
-ghost use Rattle.cover.specs.Masks.{mask_of, goalPair, goalMask, maskRow};
+ghost use Rattle.cover.specs.Masks.{mask_of, goal_pair, goalMask, maskRow};
 
 use table::Goal;
 
@@ -22,7 +22,7 @@ fn mask_of(cells: &[u8; 1464], tests: usize, a: usize, b: usize) -> u32
 
 // Whether the columns a and b, a the lower, are a pair of the goal.
 fn goal_pair(goal: Goal, a: usize, b: usize) -> bool
-    ensures { result ≡ goalPair goal a b }
+    ensures { result ≡ goal_pair goal a b }
 {
     if b <= a {
         return false;

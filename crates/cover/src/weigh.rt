@@ -1,7 +1,7 @@
 // Tests weighed by the masks that they are in.
 ghost use Rattle.std.specs.Prelude.{◌≡◌, ◌-◌, ◌^◌, ◌≤◌, ◌<◌};
-ghost use Rattle.sets.specs.Collect.{setOf};
-ghost use Rattle.cover.specs.Kept.{maskIs, used, covers, outdone, kept, lone};
+ghost use Rattle.sets.specs.Collect.{set_of};
+ghost use Rattle.cover.specs.Kept.{mask_is, used, covers, outdone, kept, lone};
 
 // Whether some mask has test t.
 fn used(masks: &[u32], t: usize) -> bool
@@ -21,7 +21,7 @@ fn used(masks: &[u32], t: usize) -> bool
 // The tests that are in every mask that test t is in; all of them where it is in none.
 fn shared_with(masks: &[u32], t: usize) -> u32
     requires { t < 24 }
-    ensures { result ≡ setOf (λ u. covers masks.now u t) 24 }
+    ensures { result ≡ set_of (λ u. covers masks.now u t) 24 }
 {
     let mut shared: u32 = 16777215;
     let mut i: usize = 0;
@@ -65,7 +65,7 @@ pub fn is_kept(masks: &[u32], tests: usize, t: usize) -> bool
 // Whether test t is the mask's only kept test.
 fn mask_is(mask: u32, kept: u32, t: usize) -> bool
     requires { t < 24 }
-    ensures { result ≡ maskIs kept t mask }
+    ensures { result ≡ mask_is kept t mask }
 {
     mask & kept == 1 << t
 }
@@ -88,7 +88,7 @@ fn lone(masks: &[u32], kept: u32, t: usize) -> bool
 // The tests that are the only kept one of some mask.
 pub fn lone_tests(masks: &[u32], kept: u32, tests: usize) -> u32
     requires { tests ≤ 24 }
-    ensures { result ≡ setOf (lone masks.now kept) tests }
+    ensures { result ≡ set_of (lone masks.now kept) tests }
 {
     let mut set: u32 = 0;
     let mut i: usize = 0;

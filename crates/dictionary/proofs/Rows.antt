@@ -8,14 +8,14 @@ use lib.ListN.{length}
 use mir.Syntax.{w64}
 use mir.Val.{Fits}
 use Rattle.folds.specs.Fold.{count}
-use Rattle.folds.proofs.Count.{count-le}
+use Rattle.folds.proofs.Count.{count_le}
 use Rattle.folds.proofs.Gather.{gather-length}
 use Rattle.folds.proofs.Joined.{joined-rows}
 use Rattle.sets.specs.Sets.{has, size}
 use Rattle.table.specs.Table.{cell_at}
 use Rattle.table.specs.declared.Table.{Table}
 use Rattle.terms.specs.Columns.{lowest, outputOf, outputsUnder}
-use Rattle.dictionary.specs.Dictionary.{rowsUnder}
+use Rattle.dictionary.specs.Dictionary.{rows_under}
 
 module _ (out : ℕ → ℕ → ℕ) (tests s : ℕ) where
   -- each row has a byte for each test of the set
@@ -26,16 +26,16 @@ module _ (out : ℕ → ℕ → ℕ) (tests s : ℕ) where
   row-size n c e = e ∙ sym (row-length c)
 
   -- k rows of n bytes
-  pub rows-size : (k n m : ℕ) → k ≡ count (lowest out tests) m → n ≡ size s tests → k * n ≡ length (rowsUnder out tests s m)
+  pub rows-size : (k n m : ℕ) → k ≡ count (lowest out tests) m → n ≡ size s tests → k * n ≡ length (rows_under out tests s m)
   rows-size k n m ek en = rw (ek, en) (sym (joined-rows (lowest out tests) (outputsUnder out tests s) (size s tests) m row-length))
 
-  pub rows_fit : (k n m room : ℕ) → k ≡ count (lowest out tests) m → n ≡ size s tests → k * n ≤ room → length (rowsUnder out tests s m) ≤ room
+  pub rows_fit : (k n m room : ℕ) → k ≡ count (lowest out tests) m → n ≡ size s tests → k * n ≤ room → length (rows_under out tests s m) ≤ room
   rows_fit k n m room ek en h = rw (← rows-size k n m ek en) h
 
 -- how many bytes they are fits
 pub bytes_fit : (tb : Table) (s n k : ℕ) → tb.tests ≤ 24 → tb.faults + 1 ≤ 61 → n ≡ size s tb.tests
     → k ≡ count (lowest (cell_at tb.cells) tb.tests) (tb.faults + 1) → Fits w64 (k * n)
 bytes_fit tb s n k t c en ek =
-    let a : k ≤ 61 = omega (arith, count-le (lowest (cell_at tb.cells) tb.tests) (tb.faults + 1)) in
-    let b : n ≤ 24 = omega (arith, count-le (has s) tb.tests) in
+    let a : k ≤ 61 = omega (arith, count_le (lowest (cell_at tb.cells) tb.tests) (tb.faults + 1)) in
+    let b : n ≤ 24 = omega (arith, count_le (has s) tb.tests) in
     record { fits = lt_of_le_of_lt (mul-le-mul a b) (lit< tt) }

@@ -4,11 +4,11 @@ use mathlib.Core.Path.{◌≡◌, refl, sym, ap, ◌∙◌}
 use Prim.Native.Nat.{ℕ, ◌≤◌}
 use native.Mathlib.Omega.{arith}
 use lib.ListN.{length, take}
-use Rattle.folds.proofs.Onto.{onto-front}
+use Rattle.folds.proofs.Onto.{onto_front}
 use Rattle.asks.specs.Asks.{Ask, Numbered}
 use Rattle.lent.specs.Lent.{WritesOnto}
-use Rattle.lent.proofs.Lent.{writes-accepted}
-use Rattle.table.specs.Answers.{writtenNumber, writtenCount}
+use Rattle.lent.proofs.Lent.{writes_accepted}
+use Rattle.table.specs.Answers.{written_number, written_count}
 use Rattle.table.specs.declared.Written.{Written}
 use Rattle.table.specs.declared.Written.TheVariants.{Bytes}
 use Rattle.table.proofs.Answers.{written_one}
@@ -20,19 +20,19 @@ no_other says a b h other differs r e q = differs (sym q ∙ ap says e ∙ h)
 -- a call that nothing refuses, whose answer is xs, on a buffer d that has room for it
 module _ (earlier : List Ask) (answer xs : List ℕ) (unrefused : Numbered earlier 0) (is : answer ≡ xs) (d : List ℕ) (room : length xs ≤ length d) where
   module _ (r : Written) (e : List ℕ) (w : WritesOnto earlier answer d r e) where
-    accepted : writtenNumber r ≡ 0
-    accepted = writes-accepted earlier answer d r e w unrefused (rw is room)
+    accepted : written_number r ≡ 0
+    accepted = writes_accepted earlier answer d r e w unrefused (rw is room)
 
     all-bytes : r ≡ Bytes (length xs)
     all-bytes = written_one r (Bytes (length xs)) accepted (w.count ∙ rw (accepted, is))
 
     front : take (length xs) e ≡ xs
-    front = rw (w.buffer, accepted, is) (onto-front xs d)
+    front = rw (w.buffer, accepted, is) (onto_front xs d)
 
   -- it leaves the buffer as it was only where the answer stood there already
   pub writes-something : (take (length xs) d ≡ xs → ⊥) → (r : Written) → WritesOnto earlier answer d r d → ⊥
   writes-something new r w = new (front r d w)
 
   -- it gives no other count than the answer's length
-  pub no-other-length : (n : ℕ) → (n ≡ length xs → ⊥) → (r : Written) (e : List ℕ) → WritesOnto earlier answer d r e → writtenCount r ≡ n → ⊥
-  no-other-length n differs r e w = no_other writtenCount (Bytes (length xs)) (length xs) refl n differs r (all-bytes r e w)
+  pub no-other-length : (n : ℕ) → (n ≡ length xs → ⊥) → (r : Written) (e : List ℕ) → WritesOnto earlier answer d r e → written_count r ≡ n → ⊥
+  no-other-length n differs r e w = no_other written_count (Bytes (length xs)) (length xs) refl n differs r (all-bytes r e w)

@@ -5,7 +5,7 @@ use Prim.Native.Nat.{ℕ, ◌*◌, ◌≤◌, ◌<◌}
 use native.Mathlib.Omega.{arith}
 use lib.ListN.{length, take, length-take}
 use Rattle.text.specs.Writes.{Writes}
-use Rattle.text.proofs.Writes.{writes-onto}
+use Rattle.text.proofs.Writes.{writes_onto}
 use Rattle.table.specs.Answers.{number_of}
 use Rattle.table.specs.declared.Refusal.TheVariants.{BufferShort}
 use Rattle.flat.specs.Packed.{packed}
@@ -23,4 +23,4 @@ module _ (bytes d : List ℕ) (n value : ℕ) (long : length bytes ≡ 61) (few 
   laid-short r h = call-short value (take n bytes) d n part-long r h
 
   pub laid-all : (r : ℕ) (e : List ℕ) → n ≤ length d → Writes 0 (take n bytes) d r e → CallWrites [] value (take n bytes) d (value * 256) e
-  laid-all r e h w = call-all value (take n bytes) d n part-long e h (writes-onto r (take n bytes) d e w (omega (arith, part-long)))
+  laid-all r e h w = call-all value (take n bytes) d n part-long e h (writes_onto r (take n bytes) d e w (omega (arith, part-long)))

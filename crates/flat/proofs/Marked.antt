@@ -8,10 +8,10 @@ use lib.ListN.{length, set}
 use mir.Syntax.{w64}
 use mir.Val.{Fits}
 use Rattle.folds.specs.Fold.{always, listed, onto}
-use Rattle.folds.proofs.Count.{count-le}
+use Rattle.folds.proofs.Count.{count_le}
 use Rattle.folds.proofs.Gather.{listed-length, listed_start, listed-store, gather-end}
 use Rattle.sets.specs.Sets.{bit, has, size}
-use Rattle.sets.proofs.Bits.{has-bit, lacks-bit}
+use Rattle.sets.proofs.Bits.{has_bit, lacks_bit}
 use Rattle.table.specs.Answers.{number_of}
 use Rattle.table.specs.declared.Refusal.TheVariants.{BufferShort}
 use Rattle.flat.specs.Packed.{packed}
@@ -21,14 +21,14 @@ use Rattle.flat.proofs.Room.{call-all, call-short}
 -- 1 where the set has f, else 0
 module _ (s f : ℕ) (r : Bool) (e : r ≡ has s f) where
   pub mark-in : r ≡ true → 1 ≡ bit s f
-  mark-in h = sym (has-bit s f (sym e ∙ h))
+  mark-in h = sym (has_bit s f (sym e ∙ h))
 
   pub mark-out : r ≡ false → 0 ≡ bit s f
-  mark-out h = sym (lacks-bit s f (sym e ∙ h))
+  mark-out h = sym (lacks_bit s f (sym e ∙ h))
 
 module _ (s : ℕ) where
   pub size_fits : (n m : ℕ) → m ≡ size s n → n ≤ 60 → Fits w64 (m * 256)
-  size_fits n m e h = record { fits = omega (arith, count-le (has s) n) }
+  size_fits n m e h = record { fits = omega (arith, count_le (has s) n) }
 
   pub marks-start : (d : List ℕ) → d ≡ onto (listed (bit s) 0) d
   marks-start d = listed_start (bit s) d

@@ -5,7 +5,7 @@ use Prim.Native.Nat.{ℕ, ◌+◌, ◌*◌, ◌≤◌, ◌<◌}
 use native.Mathlib.Omega.{arith}
 use borrow.Author.Tests.{eq-eqb, ne_eqb, lt-ltb, le-ltb}
 use lib.Dec.{eqb}
-use Rattle.table.specs.Answers.{capLimit, number_of, chosenNumber, chosenSet, writtenNumber, writtenCount}
+use Rattle.table.specs.Answers.{cap_limit, number_of, chosen_number, chosen_set, written_number, written_count}
 use Rattle.table.specs.declared.Chosen.{Chosen}
 use Rattle.table.specs.declared.Chosen.TheVariants.{Tests, Refused}
 use Rattle.table.specs.declared.Goal.TheVariants.{Detect, Diagnose}
@@ -13,92 +13,92 @@ use Rattle.table.specs.declared.Refusal.{Refusal}
 use Rattle.table.specs.declared.Table.{Table}
 use Rattle.table.specs.declared.Written.{Written}
 use Rattle.table.specs.declared.Verdict.{Verdict}
-use Rattle.table.proofs.Answers.{number-bounds}
-use Rattle.asks.specs.Asks.{tableAsks}
+use Rattle.table.proofs.Answers.{number_bounds}
+use Rattle.asks.specs.Asks.{table_asks}
 use Rattle.asks.specs.Asked.{Asked}
-use Rattle.flat.specs.Packed.{packed, callNumber, callValue, goalOf, NoGoal}
-use Rattle.flat.specs.Caps.{valueLimit, cap_of}
+use Rattle.flat.specs.Packed.{packed, call_number, call_value, goal_of, NoGoal}
+use Rattle.flat.specs.Caps.{value_limit, cap_of}
 use Rattle.table.specs.declared.Verdict.TheVariants as verdict
 use Rattle.table.specs.declared.Written.TheVariants as written
 
 -- no bit is lost: both parts come back,
 module _ (number value : ℕ) (small : number < 256) where
-  pub low_bits : callNumber (packed number value) ≡ number
-  unfolding callNumber packed
+  pub low_bits : call_number (packed number value) ≡ number
+  unfolding call_number packed
   low_bits = omega arith
 
-  pub high_bits : callValue (packed number value) ≡ value
-  unfolding callValue packed
+  pub high_bits : call_value (packed number value) ≡ value
+  unfolding call_value packed
   high_bits = omega arith
 
 -- they are the whole answer,
-pub answer-parts : (r : ℕ) → packed (callNumber r) (callValue r) ≡ r
-unfolding callNumber callValue packed
-answer-parts r = omega arith
+pub answer_parts : (r : ℕ) → packed (call_number r) (call_value r) ≡ r
+unfolding call_number call_value packed
+answer_parts r = omega arith
 
 -- and an answer fits the 64 bits
-pub packed-fits : (number value : ℕ) → number < 256 → value < valueLimit → packed number value < 18446744073709551616
+pub packed_fits : (number value : ℕ) → number < 256 → value < value_limit → packed number value < 18446744073709551616
 unfolding packed
-packed-fits number value h k = omega arith
+packed_fits number value h k = omega arith
 
 -- every refusal has a number
-pub refusal-some : (why : Refusal) → eqb (number_of why) 0 ≡ false
-refusal-some why = ne_eqb (number_of why) 0 (λ e. omega (arith, (number-bounds why).0))
+pub refusal_some : (why : Refusal) → eqb (number_of why) 0 ≡ false
+refusal_some why = ne_eqb (number_of why) 0 (λ e. omega (arith, (number_bounds why).0))
 
-pub refused-packed : (why : Refusal) (n : ℕ) → n ≡ number_of why → n ≡ packed (number_of why) 0
+pub refused_packed : (why : Refusal) (n : ℕ) → n ≡ number_of why → n ≡ packed (number_of why) 0
 unfolding packed
-refused-packed why n e = omega arith
+refused_packed why n e = omega arith
 
 -- ---- sets
 
-pub tests-packed : (a : Chosen) (s : ℕ) → a ≡ Tests s → s * 256 ≡ packed (chosenNumber a) (chosenSet a)
+pub tests_packed : (a : Chosen) (s : ℕ) → a ≡ Tests s → s * 256 ≡ packed (chosen_number a) (chosen_set a)
 unfolding packed
-tests-packed a s e = rw e (omega arith)
+tests_packed a s e = rw e (omega arith)
 
-pub refusal-packed : (a : Chosen) (why : Refusal) (n : ℕ) → a ≡ Refused why → n ≡ packed (number_of why) 0 → n ≡ packed (chosenNumber a) (chosenSet a)
-refusal-packed a why n e en = rw e en
+pub refusal_packed : (a : Chosen) (why : Refusal) (n : ℕ) → a ≡ Refused why → n ≡ packed (number_of why) 0 → n ≡ packed (chosen_number a) (chosen_set a)
+refusal_packed a why n e en = rw e en
 
 -- ---- counts
 
 module _ (a : Written) (n : ℕ) (e : a ≡ written.Bytes n) where
-  pub count-below : writtenCount a < valueLimit → n < valueLimit
+  pub count-below : written_count a < value_limit → n < value_limit
   count-below h = rw e at h
 
-  pub count-packed : n * 256 ≡ packed (writtenNumber a) (writtenCount a)
+  pub count-packed : n * 256 ≡ packed (written_number a) (written_count a)
   unfolding packed
   count-packed = rw e (omega arith)
 
-pub unwritten-packed : (a : Written) (why : Refusal) (n : ℕ) → a ≡ written.Refused why → n ≡ packed (number_of why) 0 → n ≡ packed (writtenNumber a) (writtenCount a)
-unwritten-packed a why n e en = rw e en
+pub unwritten_packed : (a : Written) (why : Refusal) (n : ℕ) → a ≡ written.Refused why → n ≡ packed (number_of why) 0 → n ≡ packed (written_number a) (written_count a)
+unwritten_packed a why n e en = rw e en
 
 -- ---- goals and caps
 
-pub goal-detect : (goal : ℕ) → goal ≡ 0 → Detect ≡ goalOf goal
-unfolding goalOf
-goal-detect goal e = rw (eq-eqb goal 0 e) refl
+pub goal_detect : (goal : ℕ) → goal ≡ 0 → Detect ≡ goal_of goal
+unfolding goal_of
+goal_detect goal e = rw (eq-eqb goal 0 e) refl
 
-pub goal-diagnose : (goal : ℕ) → (goal ≡ 0 → ⊥) → Diagnose ≡ goalOf goal
-unfolding goalOf
-goal-diagnose goal ne = rw (ne_eqb goal 0 ne) refl
+pub goal_diagnose : (goal : ℕ) → (goal ≡ 0 → ⊥) → Diagnose ≡ goal_of goal
+unfolding goal_of
+goal_diagnose goal ne = rw (ne_eqb goal 0 ne) refl
 
-module _ (tb : Table) (v : Verdict) (h : Asked (tableAsks tb) v) where
+module _ (tb : Table) (v : Verdict) (h : Asked (table_asks tb) v) where
   pub no-goal-99 : v ≡ verdict.Accepted → NoGoal tb 99
   unfolding packed
   no-goal-99 e = record { earlier = 0; asked = rw e at h.number; is = refl }
 
   pub no-goal-refused : (why : Refusal) (r : ℕ) → v ≡ verdict.Refused why → r ≡ packed (number_of why) 0 → NoGoal tb r
-  no-goal-refused why r e er = record { earlier = number_of why; asked = rw e at h.number; is = er ∙ rw (refusal-some why) refl }
+  no-goal-refused why r e er = record { earlier = number_of why; asked = rw e at h.number; is = er ∙ rw (refusal_some why) refl }
 
-pub cap-high : (cap : ℕ) → capLimit < cap → capLimit + 1 ≡ cap_of cap
+pub cap_high : (cap : ℕ) → cap_limit < cap → cap_limit + 1 ≡ cap_of cap
 unfolding cap_of
-cap-high cap h = rw (lt-ltb capLimit cap h) refl
+cap_high cap h = rw (lt-ltb cap_limit cap h) refl
 
-pub cap-low : (cap : ℕ) → cap ≤ capLimit → cap ≡ cap_of cap
+pub cap_low : (cap : ℕ) → cap ≤ cap_limit → cap ≡ cap_of cap
 unfolding cap_of
-cap-low cap h = rw (le-ltb capLimit cap h) refl
+cap_low cap h = rw (le-ltb cap_limit cap h) refl
 
 -- ---- a refusal at a place
 
-pub place-packed : (why : Refusal) (n place : ℕ) → n ≡ number_of why → n + place * 256 ≡ packed (number_of why) place
+pub place_packed : (why : Refusal) (n place : ℕ) → n ≡ number_of why → n + place * 256 ≡ packed (number_of why) place
 unfolding packed
-place-packed why n place e = rw e refl
+place_packed why n place e = rw e refl

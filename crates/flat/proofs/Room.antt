@@ -9,44 +9,44 @@ use Rattle.folds.specs.Fold.{onto}
 use Rattle.table.specs.Answers.{number_of}
 use Rattle.table.specs.declared.Refusal.{Refusal}
 use Rattle.table.specs.declared.Refusal.TheVariants.{BufferShort}
-use Rattle.table.proofs.Answers.{number-bounds}
+use Rattle.table.proofs.Answers.{number_bounds}
 use Rattle.asks.specs.Asks.{Ask, asks, Numbered}
-use Rattle.asks.proofs.Numbered.{numbered-refused, numbered-on}
-use Rattle.flat.specs.Packed.{packed, callNumber, callValue}
+use Rattle.asks.proofs.Numbered.{numbered_refused, numbered_on}
+use Rattle.flat.specs.Packed.{packed, call_number, call_value}
 use Rattle.flat.specs.Writes.{CallWrites}
-use Rattle.flat.proofs.Numbers.{low_bits, high_bits, refusal-some}
+use Rattle.flat.proofs.Numbers.{low_bits, high_bits, refusal_some}
 
 -- the parts of a refusal, and of a value
 module _ (why : Refusal) (r : ℕ) (e : r ≡ packed (number_of why) 0) where
-  refused-number : callNumber r ≡ number_of why
-  refused-number = rw e (low_bits (number_of why) 0 (omega (arith, number-bounds why)))
+  refused-number : call_number r ≡ number_of why
+  refused-number = rw e (low_bits (number_of why) 0 (omega (arith, number_bounds why)))
 
-  refused-value : callValue r ≡ 0
-  refused-value = rw e (high_bits (number_of why) 0 (omega (arith, number-bounds why)))
+  refused-value : call_value r ≡ 0
+  refused-value = rw e (high_bits (number_of why) 0 (omega (arith, number_bounds why)))
 
 module _ (value : ℕ) where
-  accepted-number : callNumber (value * 256) ≡ 0
-  unfolding callNumber
+  accepted-number : call_number (value * 256) ≡ 0
+  unfolding call_number
   accepted-number = omega arith
 
-  accepted-value : callValue (value * 256) ≡ value
-  unfolding callValue
+  accepted-value : call_value (value * 256) ≡ value
+  unfolding call_value
   accepted-value = omega arith
 
 -- a call that is refused before the buffer is looked at
-pub call-refused : (earlier : List Ask) (value : ℕ) (answer d : List ℕ) (why : Refusal) (r : ℕ) → Numbered earlier (number_of why) → r ≡ packed (number_of why) 0 → CallWrites earlier value answer d r d
-call-refused earlier value answer d why r h e =
+pub call_refused : (earlier : List Ask) (value : ℕ) (answer d : List ℕ) (why : Refusal) (r : ℕ) → Numbered earlier (number_of why) → r ≡ packed (number_of why) 0 → CallWrites earlier value answer d r d
+call_refused earlier value answer d why r h e =
     let n = refused-number why r e in
     record {
-      number = rw n (numbered-refused earlier (asks BufferShort (length answer ≤ length d) ∷ []) why h);
-      worth = rw (n, refusal-some why) (refused-value why r e);
-      buffer = rw (n, refusal-some why) refl;
+      number = rw n (numbered_refused earlier (asks BufferShort (length answer ≤ length d) ∷ []) why h);
+      worth = rw (n, refusal_some why) (refused-value why r e);
+      buffer = rw (n, refusal_some why) refl;
     }
 
 -- what is asked earlier, and holds, changes nothing
-pub call-after : (earlier : List Ask) (value : ℕ) (answer d : List ℕ) (r : ℕ) (e : List ℕ) → Numbered earlier 0 → CallWrites [] value answer d r e → CallWrites earlier value answer d r e
-call-after earlier value answer d r e h w = record {
-  number = numbered-on earlier (asks BufferShort (length answer ≤ length d) ∷ []) (callNumber r) h w.number;
+pub call_after : (earlier : List Ask) (value : ℕ) (answer d : List ℕ) (r : ℕ) (e : List ℕ) → Numbered earlier 0 → CallWrites [] value answer d r e → CallWrites earlier value answer d r e
+call_after earlier value answer d r e h w = record {
+  number = numbered_on earlier (asks BufferShort (length answer ≤ length d) ∷ []) (call_number r) h w.number;
   worth = w.worth;
   buffer = w.buffer;
 }

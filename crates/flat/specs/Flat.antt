@@ -3,28 +3,28 @@
 -- Assumes nothing.
 use Rattle.std.specs.Prelude.{List, [], ◌∷◌, ◌++◌, ℕ, zero, suc, ◌+◌, ◌/◌, ◌%◌, eqb, length, get_or, set, replicate}
 use Rattle.folds.specs.Fold.{whether, listed}
-use Rattle.table.specs.Table.{place_of, outputAt, emptyTable, tableWith}
+use Rattle.table.specs.Table.{place_of, output_at, empty_table, table_with}
 use Rattle.table.specs.declared.Table.{Table}
 
 unfoldable pub byte_at : List ℕ → ℕ → ℕ → ℕ
 byte_at bytes from i = get_or bytes (from + i) 0
 
 -- the first n of the lent cells, each at its place: cell k is that of test k / 61 in column k % 61
-unfoldable pub cellsFilled : List ℕ → ℕ → List ℕ
-cellsFilled bytes zero = replicate 1464 0
-cellsFilled bytes (suc k) = set (cellsFilled bytes k) (place_of (k / 61) (k % 61)) (get_or bytes (k + 2) 0)
+unfoldable pub cells_filled : List ℕ → ℕ → List ℕ
+cells_filled bytes zero = replicate 1464 0
+cells_filled bytes (suc k) = set (cells_filled bytes k) (place_of (k / 61) (k % 61)) (get_or bytes (k + 2) 0)
 
 unfoldable pub table_of : List ℕ → Table
 table_of bytes =
-    tableWith emptyTable (get_or bytes 0 0) (get_or bytes 1 0) (cellsFilled bytes 1464) (listed (byte_at bytes 1466) 60) (listed (byte_at bytes 1526) 60)
+    table_with empty_table (get_or bytes 0 0) (get_or bytes 1 0) (cells_filled bytes 1464) (listed (byte_at bytes 1466) 60) (listed (byte_at bytes 1526) 60)
 
 -- a table that is not well formed, for bytes that are no table: 25 tests, and else empty
-unfoldable pub noTable : Table
-noTable = tableWith emptyTable 25 0 emptyTable.cells emptyTable.lines emptyTable.stuck
+unfoldable pub no_table : Table
+no_table = table_with empty_table 25 0 empty_table.cells empty_table.lines empty_table.stuck
 
 -- the table that the bytes give a call
-unfoldable pub lentTable : List ℕ → Table
-lentTable bytes = whether (eqb (length bytes) 1586) (table_of bytes) noTable
+unfoldable pub lent_table : List ℕ → Table
+lent_table bytes = whether (eqb (length bytes) 1586) (table_of bytes) no_table
 
 -- cell k, where `out` gives the output of a test in a column
 unfoldable pub cell_of : (ℕ → ℕ → ℕ) → ℕ → ℕ
@@ -36,4 +36,4 @@ label_of labels f = get_or labels f 0
 -- the bytes of a table
 unfoldable pub bytes_of : Table → List ℕ
 bytes_of tb =
-    (tb.tests ∷ []) ++ ((tb.faults ∷ []) ++ (listed (cell_of (outputAt tb)) 1464 ++ (listed (label_of tb.lines) 60 ++ listed (label_of tb.stuck) 60)))
+    (tb.tests ∷ []) ++ ((tb.faults ∷ []) ++ (listed (cell_of (output_at tb)) 1464 ++ (listed (label_of tb.lines) 60 ++ listed (label_of tb.stuck) 60)))

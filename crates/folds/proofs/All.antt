@@ -9,7 +9,7 @@ use native.Mathlib.Omega.{arith}
 use lib.ListN.{length, get_or}
 use Rattle.folds.specs.Fold.{whether, joined, single, gather}
 use Rattle.folds.proofs.Bools.{clash}
-use Rattle.folds.proofs.Below.{below-cases}
+use Rattle.folds.proofs.Below.{below_cases}
 
 -- every entry has Q
 abbrev pub AllOf : (ℕ → Type 0) → List ℕ → Type 0
@@ -62,7 +62,7 @@ module _ (Q : ℕ → Type 0) where
     joined_at (suc n) h i l e k m =
         ⊎_elim (λ v. joined_at n (all_left (joined p g n) (whether (p n) (g n) []) h) i v e k m)
         (λ (q : i ≡ n). go (p n) (rw q at e) (all_right (joined p g n) (whether (p n) (g n) []) h) q)
-        (below-cases i n l)
+        (below_cases i n l)
       where
         go : (b : Bool) → b ≡ true → AllOf Q (whether b (g n) []) → i ≡ n → Q (get_or (g i) k 0)
         go true t w q = rw q (w k (rw q at m))

@@ -7,59 +7,59 @@ use native.Mathlib.Nat.{le_antisymm, le_refl}
 use native.Mathlib.Numerals.{add-one}
 use native.Mathlib.Omega.{arith}
 use Rattle.folds.specs.Fold.{whether, count}
-use Rattle.folds.proofs.Below.{below-cases}
+use Rattle.folds.proofs.Below.{below_cases}
 
 pub count_none : (p : ℕ → Bool) → count p 0 ≡ 0
 unfolding count
 count_none p = refl
 
-pub count-more : (p : ℕ → Bool) (i : ℕ) → count p (i + 1) ≡ count p i + whether (p i) 1 0
+pub count_more : (p : ℕ → Bool) (i : ℕ) → count p (i + 1) ≡ count p i + whether (p i) 1 0
 unfolding count
-count-more p i = rw add-one
+count_more p i = rw add-one
 
 pub count_yes : (p : ℕ → Bool) (i : ℕ) → p i ≡ true → count p (i + 1) ≡ count p i + 1
-count_yes p i h = rw (count-more, h)
+count_yes p i h = rw (count_more, h)
 
 pub count_no : (p : ℕ → Bool) (i : ℕ) → p i ≡ false → count p (i + 1) ≡ count p i
-count_no p i h = rw (count-more, h) (omega arith)
+count_no p i h = rw (count_more, h) (omega arith)
 
 one_at_most : (b : Bool) → whether {A = ℕ} b 1 0 ≤ 1
 one_at_most true = omega arith
 one_at_most false = omega arith
 
-pub count-le : (p : ℕ → Bool) (n : ℕ) → count p n ≤ n
+pub count_le : (p : ℕ → Bool) (n : ℕ) → count p n ≤ n
 unfolding count
-count-le p zero = omega arith
-count-le p (suc n) = omega (arith, count-le p n, one_at_most (p n))
+count_le p zero = omega arith
+count_le p (suc n) = omega (arith, count_le p n, one_at_most (p n))
 
-pub count-mono : (p : ℕ → Bool) (i n : ℕ) → i ≤ n → count p i ≤ count p n
+pub count_mono : (p : ℕ → Bool) (i n : ℕ) → i ≤ n → count p i ≤ count p n
 unfolding count
-count-mono p i zero h = let e : i ≡ 0 = omega arith in rw e (le_refl _)
-count-mono p i (suc n) h =
-    ⊎_elim (λ w. omega (arith, count-mono p i n (omega arith))) (λ e. rw e (le_refl _)) (below-cases i (suc n) (omega arith))
+count_mono p i zero h = let e : i ≡ 0 = omega arith in rw e (le_refl _)
+count_mono p i (suc n) h =
+    ⊎_elim (λ w. omega (arith, count_mono p i n (omega arith))) (λ e. rw e (le_refl _)) (below_cases i (suc n) (omega arith))
 
 -- below i fewer have p than below n, where i has it and is below n
 pub count_less : (p : ℕ → Bool) (i n : ℕ) → i < n → p i ≡ true → count p i + 1 ≤ count p n
-count_less p i n w h = omega (arith, count_yes p i h, count-mono p (i + 1) n (omega arith))
+count_less p i n w h = omega (arith, count_yes p i h, count_mono p (i + 1) n (omega arith))
 
 -- each number below the count is the count at some place that has p: there are no gaps
-pub count-reaches : (p : ℕ → Bool) (n k : ℕ) → k < count p n → (i : ℕ) × (i < n) × (p i ≡ true) × (count p i ≡ k)
+pub count_reaches : (p : ℕ → Bool) (n k : ℕ) → k < count p n → (i : ℕ) × (i < n) × (p i ≡ true) × (count p i ≡ k)
 unfolding count
-count-reaches p zero k h = absurd (omega arith)
-count-reaches p (suc n) k h = go (p n) refl (count-reaches p n k)
+count_reaches p zero k h = absurd (omega arith)
+count_reaches p (suc n) k h = go (p n) refl (count_reaches p n k)
   where
     go : (b : Bool) → p n ≡ b → (k < count p n → (i : ℕ) × (i < n) × (p i ≡ true) × (count p i ≡ k)) → (i : ℕ) × (i < suc n) × (p i ≡ true) × (count p i ≡ k)
     go true e r =
         ⊎_elim (λ (w : k < count p n). let x = r w in (x.0, omega (arith, x.1), x.2, x.3))
         (λ (w : k ≡ count p n). (n, omega arith, e, sym w))
-        (below-cases k (count p n) (let q : whether {A = ℕ} (p n) 1 0 ≡ 1 = rw e in omega arith))
+        (below_cases k (count p n) (let q : whether {A = ℕ} (p n) 1 0 ≡ 1 = rw e in omega arith))
     go false e r = let x = r (let q : whether {A = ℕ} (p n) 1 0 ≡ 0 = rw e in omega arith) in (x.0, omega (arith, x.1), x.2, x.3)
 
 -- numbers above a alone have p: below i there are at most i - (a + 1)
-pub count-above : (p : ℕ → Bool) (a : ℕ) → ((i : ℕ) → p i ≡ true → a < i) → (i : ℕ) → count p i ≤ i - (a + 1)
+pub count_above : (p : ℕ → Bool) (a : ℕ) → ((i : ℕ) → p i ≡ true → a < i) → (i : ℕ) → count p i ≤ i - (a + 1)
 unfolding count
-count-above p a h zero = omega arith
-count-above p a h (suc i) = go (p i) refl (count-above p a h i)
+count_above p a h zero = omega arith
+count_above p a h (suc i) = go (p i) refl (count_above p a h i)
   where
     go : (b : Bool) → p i ≡ b → count p i ≤ i - (a + 1) → count p i + whether b 1 0 ≤ suc i - (a + 1)
     go true e k = omega (arith, h i e)
@@ -67,20 +67,20 @@ count-above p a h (suc i) = go (p i) refl (count-above p a h i)
 
 -- ---- a loop `while i < n { if test(i) { k += 1; } i += 1; } k`, with the invariant k ≡ count p i
 
-pub count-start : (p : ℕ → Bool) → 0 ≡ count p 0
-count-start p = sym (count_none p)
+pub count_start : (p : ℕ → Bool) → 0 ≡ count p 0
+count_start p = sym (count_none p)
 
-pub count-up : (p : ℕ → Bool) (i k k' : ℕ) (r : Bool) → k ≡ count p i → r ≡ p i → r ≡ true → k' ≡ k + 1 → k' ≡ count p (i + 1)
-count-up p i k k' r h e q f = omega (arith, count_yes p i (sym e ∙ q))
+pub count_up : (p : ℕ → Bool) (i k k' : ℕ) (r : Bool) → k ≡ count p i → r ≡ p i → r ≡ true → k' ≡ k + 1 → k' ≡ count p (i + 1)
+count_up p i k k' r h e q f = omega (arith, count_yes p i (sym e ∙ q))
 
-pub count-on : (p : ℕ → Bool) (i k k' : ℕ) (r : Bool) → k ≡ count p i → r ≡ p i → r ≡ false → k' ≡ k → k' ≡ count p (i + 1)
-count-on p i k k' r h e q f = omega (arith, count_no p i (sym e ∙ q))
+pub count_on : (p : ℕ → Bool) (i k k' : ℕ) (r : Bool) → k ≡ count p i → r ≡ p i → r ≡ false → k' ≡ k → k' ≡ count p (i + 1)
+count_on p i k k' r h e q f = omega (arith, count_no p i (sym e ∙ q))
 
-pub count-end : (p : ℕ → Bool) (n i k : ℕ) → i ≤ n → n ≤ i → k ≡ count p i → k ≡ count p n
-count-end p n i k h w e = e ∙ ap (count p) (le_antisymm h w)
+pub count_end : (p : ℕ → Bool) (n i k : ℕ) → i ≤ n → n ≤ i → k ≡ count p i → k ≡ count p n
+count_end p n i k h w e = e ∙ ap (count p) (le_antisymm h w)
 
 -- the counter fits: it is at most the number of turns
 pub count_fits : (p : ℕ → Bool) (i k : ℕ) → k ≡ count p i → k ≤ i
-count_fits p i k e = omega (arith, count-le p i)
+count_fits p i k e = omega (arith, count_le p i)
 
-pub ruleset tally = (count-start, count-up, count-on, count-end)
+pub ruleset tally = (count_start, count_up, count_on, count_end)

@@ -3,34 +3,34 @@ use mathlib.Core.Path.{sym, subst}
 use mathlib.Core.Logic.{◌⊎◌, inl, inr, ⊎_elim}
 use Prim.Native.Nat.{ℕ, zero, suc, ◌≤◌, ◌<◌}
 use native.Mathlib.Omega.{arith}
-use Rattle.folds.proofs.Below.{below-cases}
+use Rattle.folds.proofs.Below.{below_cases}
 
 -- it holds, or it does not
 abbrev pub Decided : Type 0 → Type 0
 Decided P = P ⊎ (P → ⊥)
 
-pub decided-map : {P Q : Type 0} → (P → Q) → (Q → P) → Decided P → Decided Q
-decided-map f g (inl p) = inl (f p)
-decided-map f g (inr n) = inr (λ q. n (g q))
+pub decided_map : {P Q : Type 0} → (P → Q) → (Q → P) → Decided P → Decided Q
+decided_map f g (inl p) = inl (f p)
+decided_map f g (inr n) = inr (λ q. n (g q))
 
-pub decided-not : {P : Type 0} → Decided P → Decided (P → ⊥)
-decided-not (inl p) = inr (λ n. n p)
-decided-not (inr n) = inl n
+pub decided_not : {P : Type 0} → Decided P → Decided (P → ⊥)
+decided_not (inl p) = inr (λ n. n p)
+decided_not (inr n) = inl n
 
-pub decided-and : {P Q : Type 0} → Decided P → Decided Q → Decided (P × Q)
-decided-and (inl p) (inl q) = inl (p, q)
-decided-and (inl p) (inr n) = inr (λ w. n w.1)
-decided-and (inr n) q = inr (λ w. n w.0)
+pub decided_and : {P Q : Type 0} → Decided P → Decided Q → Decided (P × Q)
+decided_and (inl p) (inl q) = inl (p, q)
+decided_and (inl p) (inr n) = inr (λ w. n w.1)
+decided_and (inr n) q = inr (λ w. n w.0)
 
-pub decided-or : {P Q : Type 0} → Decided P → Decided Q → Decided (P ⊎ Q)
-decided-or (inl p) q = inl (inl p)
-decided-or (inr n) (inl q) = inl (inr q)
-decided-or (inr n) (inr m) = inr (λ w. ⊎_elim (λ p. n p) (λ q. m q) w)
+pub decided_or : {P Q : Type 0} → Decided P → Decided Q → Decided (P ⊎ Q)
+decided_or (inl p) q = inl (inl p)
+decided_or (inr n) (inl q) = inl (inr q)
+decided_or (inr n) (inr m) = inr (λ w. ⊎_elim (λ p. n p) (λ q. m q) w)
 
-pub decided-if : {P Q : Type 0} → Decided P → Decided Q → Decided (P → Q)
-decided-if p (inl q) = inl (λ w. q)
-decided-if (inl p) (inr m) = inr (λ f. m (f p))
-decided-if (inr n) (inr m) = inl (λ w. absurd (n w))
+pub decided_if : {P Q : Type 0} → Decided P → Decided Q → Decided (P → Q)
+decided_if p (inl q) = inl (λ w. q)
+decided_if (inl p) (inr m) = inr (λ f. m (f p))
+decided_if (inr n) (inr m) = inl (λ w. absurd (n w))
 
 module _ (P : ℕ → Type 0) (d : (i : ℕ) → Decided (P i)) where
   -- all below n have it, or one lacks it
@@ -41,7 +41,7 @@ module _ (P : ℕ → Type 0) (d : (i : ℕ) → Decided (P i)) where
       go : ((i : ℕ) → i < n → P i) ⊎ ((i : ℕ) × (i < n) × (P i → ⊥)) → Decided (P n) → ((i : ℕ) → i < suc n → P i) ⊎ ((i : ℕ) × (i < suc n) × (P i → ⊥))
       go (inr (i, l, no-i)) q = inr (i, omega arith, no-i)
       go (inl all) (inr no-n) = inr (n, omega arith, no-n)
-      go (inl all) (inl q) = inl (λ i l. ⊎_elim (λ w. all i w) (λ e. subst P (sym e) q) (below-cases i n l))
+      go (inl all) (inl q) = inl (λ i l. ⊎_elim (λ w. all i w) (λ e. subst P (sym e) q) (below_cases i n l))
 
   pub decided-all : (n : ℕ) → Decided ((i : ℕ) → i < n → P i)
   decided-all n = ⊎_elim (λ all. inl all) (λ w. inr (λ all. w.2 (all w.0 w.1))) (all-below n)
@@ -54,7 +54,7 @@ module _ (P : ℕ → Type 0) (d : (i : ℕ) → Decided (P i)) where
       go : Decided ((i : ℕ) × (i < n) × P i) → Decided (P n) → Decided ((i : ℕ) × (i < suc n) × P i)
       go (inl (i, l, w)) q = inl (i, omega arith, w)
       go (inr none) (inl q) = inl (n, omega arith, q)
-      go (inr none) (inr no-n) = inr (λ w. ⊎_elim (λ l. none (w.0, l, w.2)) (λ e. no-n (subst P e w.2)) (below-cases w.0 n w.1))
+      go (inr none) (inr no-n) = inr (λ w. ⊎_elim (λ l. none (w.0, l, w.2)) (λ e. no-n (subst P e w.2)) (below_cases w.0 n w.1))
 
 -- ---- the least of the numbers below m that have P, in an order in which any two of them can be compared
 
@@ -73,21 +73,21 @@ module _ (P : ℕ → Type 0) (R : ℕ → ℕ → Type 0) where
     first-least n l none q = record {
       below = omega arith;
       has = q;
-      least = λ y w h. ⊎_elim (λ v. absurd (none y v h)) (λ e. subst (R n) (sym e) (reflexive n l)) (below-cases y n w);
+      least = λ y w h. ⊎_elim (λ v. absurd (none y v h)) (λ e. subst (R n) (sym e) (reflexive n l)) (below_cases y n w);
     }
 
     keep-least : (n x : ℕ) → LeastBelow n x → (P n → R x n) → LeastBelow (suc n) x
     keep-least n x b r = record {
       below = omega (arith, b.below);
       has = b.has;
-      least = λ y w h. ⊎_elim (λ v. b.least y v h) (λ e. subst (R x) (sym e) (r (subst P e h))) (below-cases y n w);
+      least = λ y w h. ⊎_elim (λ v. b.least y v h) (λ e. subst (R x) (sym e) (r (subst P e h))) (below_cases y n w);
     }
 
     take-least : (n x : ℕ) → n < m → LeastBelow n x → P n → R n x → LeastBelow (suc n) n
     take-least n x l b q r = record {
       below = omega arith;
       has = q;
-      least = λ y w h. ⊎_elim (λ v. trans n x y r (b.least y v h)) (λ e. subst (R n) (sym e) (reflexive n l)) (below-cases y n w);
+      least = λ y w h. ⊎_elim (λ v. trans n x y r (b.least y v h)) (λ e. subst (R n) (sym e) (reflexive n l)) (below_cases y n w);
     }
 
     -- no number below n has P, or there is a least one
@@ -97,7 +97,7 @@ module _ (P : ℕ → Type 0) (R : ℕ → ℕ → Type 0) where
       where
         go : ((x : ℕ) × LeastBelow n x) ⊎ ((y : ℕ) → y < n → P y → ⊥) → Decided (P n) → ((x : ℕ) × LeastBelow (suc n) x) ⊎ ((y : ℕ) → y < suc n → P y → ⊥)
         go (inr none) (inl q) = inl (n, first-least n l none q)
-        go (inr none) (inr no-n) = inr (λ y w h. ⊎_elim (λ v. none y v h) (λ e. no-n (subst P e h)) (below-cases y n w))
+        go (inr none) (inr no-n) = inr (λ y w h. ⊎_elim (λ v. none y v h) (λ e. no-n (subst P e h)) (below_cases y n w))
         go (inl (x, b)) (inr no-n) = inl (x, keep-least n x b (λ q. absurd (no-n q)))
         go (inl (x, b)) (inl q) =
             ⊎_elim (λ r. inl (x, keep-least n x b (λ w. r))) (λ r. inl (n, take-least n x l b q r)) (compare x n (omega (arith, b.below)) l)

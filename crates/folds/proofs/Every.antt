@@ -9,29 +9,29 @@ use native.Mathlib.Omega.{arith}
 use borrow.Author.Tests.{not-true, not-false}
 use Rattle.folds.specs.Fold.{both, every}
 use Rattle.folds.proofs.Bools.{both_true, both_left, both_right, both_false}
-use Rattle.folds.proofs.Below.{below-cases}
+use Rattle.folds.proofs.Below.{below_cases}
 
-pub every-none : (p : ℕ → Bool) → every p 0 ≡ true
+pub every_none : (p : ℕ → Bool) → every p 0 ≡ true
 unfolding every
-every-none p = refl
+every_none p = refl
 
 pub every_more : (p : ℕ → Bool) (i : ℕ) → every p i ≡ true → p i ≡ true → every p (i + 1) ≡ true
 unfolding every
 every_more p i h q = rw (add-one, h, q)
 
-pub every-fails : (p : ℕ → Bool) (n i : ℕ) → i < n → p i ≡ false → every p n ≡ false
+pub every_fails : (p : ℕ → Bool) (n i : ℕ) → i < n → p i ≡ false → every p n ≡ false
 unfolding every
-every-fails p zero i h q = absurd (not-suc-le-zero h)
-every-fails p (suc n) i h q =
-    ⊎_elim (λ w. rw (every-fails p n i w q))
+every_fails p zero i h q = absurd (not-suc-le-zero h)
+every_fails p (suc n) i h q =
+    ⊎_elim (λ w. rw (every_fails p n i w q))
     (λ e. let r : p n ≡ false = rw e at q in rw (r, both_false))
-    (below-cases i n h)
+    (below_cases i n h)
 
-pub every-at : (p : ℕ → Bool) (n i : ℕ) → every p n ≡ true → i < n → p i ≡ true
+pub every_at : (p : ℕ → Bool) (n i : ℕ) → every p n ≡ true → i < n → p i ≡ true
 unfolding every
-every-at p zero i h w = absurd (not-suc-le-zero w)
-every-at p (suc n) i h w =
-    ⊎_elim (λ v. every-at p n i (both_left _ _ h) v) (λ e. rw e (both_right (every p n) (p n) h)) (below-cases i n w)
+every_at p zero i h w = absurd (not-suc-le-zero w)
+every_at p (suc n) i h w =
+    ⊎_elim (λ v. every_at p n i (both_left _ _ h) v) (λ e. rw e (both_right (every p n) (p n) h)) (below_cases i n w)
 
 pub every_of : (p : ℕ → Bool) (n : ℕ) → ((i : ℕ) → i < n → p i ≡ true) → every p n ≡ true
 unfolding every
@@ -39,10 +39,10 @@ every_of p zero h = refl
 every_of p (suc n) h = both_true _ _ (every_of p n (λ i w. h i (omega arith))) (h n (omega arith))
 
 -- where not every number has p, some number lacks it
-pub every-lacks : (p : ℕ → Bool) (n : ℕ) → every p n ≡ false → (i : ℕ) × (i < n) × (p i ≡ false)
+pub every_lacks : (p : ℕ → Bool) (n : ℕ) → every p n ≡ false → (i : ℕ) × (i < n) × (p i ≡ false)
 unfolding every
-every-lacks p zero h = let z : ◌≡◌ {A = ℕ} 0 1 = cc in absurd (omega arith)
-every-lacks p (suc n) h = go (every p n) refl (every-lacks p n) h
+every_lacks p zero h = let z : ◌≡◌ {A = ℕ} 0 1 = cc in absurd (omega arith)
+every_lacks p (suc n) h = go (every p n) refl (every_lacks p n) h
   where
     go : (b : Bool) → every p n ≡ b → (every p n ≡ false → (i : ℕ) × (i < n) × (p i ≡ false)) → both b (p n) ≡ false → (i : ℕ) × (i < suc n) × (p i ≡ false)
     go true e r k = (n, omega arith, k)
@@ -50,16 +50,16 @@ every-lacks p (suc n) h = go (every p n) refl (every-lacks p n) h
 
 -- ---- a loop `while i < n { if !test(i) { return false; } i += 1; } true`, with the invariant every p i ≡ true
 
-pub every-stop : (p : ℕ → Bool) (n i : ℕ) (r : Bool) → i < n → r ≡ p i → not r ≡ true → false ≡ every p n
-every-stop p n i r h e q = sym (every-fails p n i h (sym e ∙ not-true r q))
+pub every_stop : (p : ℕ → Bool) (n i : ℕ) (r : Bool) → i < n → r ≡ p i → not r ≡ true → false ≡ every p n
+every_stop p n i r h e q = sym (every_fails p n i h (sym e ∙ not-true r q))
 
-pub every-turn : (p : ℕ → Bool) (i : ℕ) (r : Bool) → every p i ≡ true → r ≡ p i → not r ≡ false → every p (i + 1) ≡ true
-every-turn p i r h e q = every_more p i h (sym e ∙ not-false r q)
+pub every_turn : (p : ℕ → Bool) (i : ℕ) (r : Bool) → every p i ≡ true → r ≡ p i → not r ≡ false → every p (i + 1) ≡ true
+every_turn p i r h e q = every_more p i h (sym e ∙ not-false r q)
 
-pub every-end : (p : ℕ → Bool) (n i : ℕ) → i ≤ n → n ≤ i → every p i ≡ true → true ≡ every p n
-every-end p n i h k e = sym e ∙ ap (every p) (le_antisymm h k)
+pub every_end : (p : ℕ → Bool) (n i : ℕ) → i ≤ n → n ≤ i → every p i ≡ true → true ≡ every p n
+every_end p n i h k e = sym e ∙ ap (every p) (le_antisymm h k)
 
-pub every-start : (p : ℕ → Bool) (n : ℕ) → (0 ≤ n) × (every p 0 ≡ true)
-every-start p n = (zero-le, every-none p)
+pub every_start : (p : ℕ → Bool) (n : ℕ) → (0 ≤ n) × (every p 0 ≡ true)
+every_start p n = (zero-le, every_none p)
 
-pub ruleset scan = (every-stop, every-turn, every-end, every-start)
+pub ruleset scan = (every_stop, every_turn, every_end, every_start)

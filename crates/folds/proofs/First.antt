@@ -14,10 +14,10 @@ first_found p (suc n) zero w h q = rw q
 first_found p (suc n) (suc i) w h q =
     rw (h zero (omega arith)) (ap suc (first_found (λ k. p (suc k)) n i (omega arith) (λ k v. h (suc k) (omega arith)) q))
 
-pub first-none : (p : ℕ → Bool) (n : ℕ) → ((k : ℕ) → k < n → p k ≡ false) → first p n ≡ n
+pub first_none : (p : ℕ → Bool) (n : ℕ) → ((k : ℕ) → k < n → p k ≡ false) → first p n ≡ n
 unfolding first
-first-none p zero h = refl
-first-none p (suc n) h = rw (h zero (omega arith)) (ap suc (first-none (λ k. p (suc k)) n (λ k v. h (suc k) (omega arith))))
+first_none p zero h = refl
+first_none p (suc n) h = rw (h zero (omega arith)) (ap suc (first_none (λ k. p (suc k)) n (λ k v. h (suc k) (omega arith))))
 
 pub first_below : (p : ℕ → Bool) (n k : ℕ) → k < first p n → p k ≡ false
 unfolding first
@@ -29,46 +29,46 @@ first_below p (suc n) k h = go (p zero) refl (λ j w. first_below (λ i. p (suc 
     go false e r zero w = e
     go false e r (suc k) w = r k (omega arith)
 
-pub first-has : (p : ℕ → Bool) (n : ℕ) → first p n < n → p (first p n) ≡ true
+pub first_has : (p : ℕ → Bool) (n : ℕ) → first p n < n → p (first p n) ≡ true
 unfolding first
-first-has p zero h = absurd (not-suc-le-zero h)
-first-has p (suc n) h = go (p zero) refl (λ w. first-has (λ i. p (suc i)) n w) h
+first_has p zero h = absurd (not-suc-le-zero h)
+first_has p (suc n) h = go (p zero) refl (λ w. first_has (λ i. p (suc i)) n w) h
   where
     go : (b : Bool) → p zero ≡ b → (first (λ i. p (suc i)) n < n → p (suc (first (λ i. p (suc i)) n)) ≡ true) → whether b zero (suc (first (λ i. p (suc i)) n)) < suc n → p (whether b zero (suc (first (λ i. p (suc i)) n))) ≡ true
     go true e r w = e
     go false e r w = r (omega arith)
 
-pub first-le : (p : ℕ → Bool) (n : ℕ) → first p n ≤ n
+pub first_le : (p : ℕ → Bool) (n : ℕ) → first p n ≤ n
 unfolding first
-first-le p zero = zero-le
-first-le p (suc n) = go (p zero) (first-le (λ i. p (suc i)) n)
+first_le p zero = zero-le
+first_le p (suc n) = go (p zero) (first_le (λ i. p (suc i)) n)
   where
     go : (b : Bool) → first (λ i. p (suc i)) n ≤ n → whether b zero (suc (first (λ i. p (suc i)) n)) ≤ suc n
     go true h = zero-le
     go false h = omega arith
 
 -- tests that agree have one lowest number
-pub first-same : (p q : ℕ → Bool) (n : ℕ) → ((i : ℕ) → i < n → p i ≡ q i) → first p n ≡ first q n
+pub first_same : (p q : ℕ → Bool) (n : ℕ) → ((i : ℕ) → i < n → p i ≡ q i) → first p n ≡ first q n
 unfolding first
-first-same p q zero e = refl
-first-same p q (suc n) e = rw (e zero (omega arith), first-same (λ i. p (suc i)) (λ i. q (suc i)) n (λ i w. e (suc i) (omega arith)))
+first_same p q zero e = refl
+first_same p q (suc n) e = rw (e zero (omega arith), first_same (λ i. p (suc i)) (λ i. q (suc i)) n (λ i w. e (suc i) (omega arith)))
 
 -- ---- a loop `while i < n { if test(i) { return i; } i += 1; } n`, with the invariant first p i ≡ i
 
-pub first-start : (p : ℕ → Bool) → first p 0 ≡ 0
+pub first_start : (p : ℕ → Bool) → first p 0 ≡ 0
 unfolding first
-first-start p = refl
+first_start p = refl
 
 none_below : (p : ℕ → Bool) (i : ℕ) → first p i ≡ i → (k : ℕ) → k < i → p k ≡ false
 none_below p i h k w = first_below p i k (omega arith)
 
-pub first-stop : (p : ℕ → Bool) (n i : ℕ) (r : Bool) → i < n → first p i ≡ i → r ≡ p i → r ≡ true → i ≡ first p n
-first-stop p n i r w h e q = sym (first_found p n i w (none_below p i h) (sym e ∙ q))
+pub first_stop : (p : ℕ → Bool) (n i : ℕ) (r : Bool) → i < n → first p i ≡ i → r ≡ p i → r ≡ true → i ≡ first p n
+first_stop p n i r w h e q = sym (first_found p n i w (none_below p i h) (sym e ∙ q))
 
-pub first-turn : (p : ℕ → Bool) (i : ℕ) (r : Bool) → first p i ≡ i → r ≡ p i → r ≡ false → first p (i + 1) ≡ i + 1
-first-turn p i r h e q = first-none p (i + 1) (below_more _ _ (none_below p i h) (sym e ∙ q))
+pub first_turn : (p : ℕ → Bool) (i : ℕ) (r : Bool) → first p i ≡ i → r ≡ p i → r ≡ false → first p (i + 1) ≡ i + 1
+first_turn p i r h e q = first_none p (i + 1) (below_more _ _ (none_below p i h) (sym e ∙ q))
 
-pub first-end : (p : ℕ → Bool) (n i : ℕ) → i ≤ n → n ≤ i → first p i ≡ i → n ≡ first p n
-first-end p n i h k e = let w = le_antisymm h k in sym w ∙ sym e ∙ ap (first p) w
+pub first_end : (p : ℕ → Bool) (n i : ℕ) → i ≤ n → n ≤ i → first p i ≡ i → n ≡ first p n
+first_end p n i h k e = let w = le_antisymm h k in sym w ∙ sym e ∙ ap (first p) w
 
-pub ruleset seek = (first-start, first-stop, first-turn, first-end)
+pub ruleset seek = (first_start, first_stop, first_turn, first_end)

@@ -9,10 +9,10 @@ use native.Mathlib.Omega.{arith}
 use lib.ListN.{length, get_or, set, get_or-append}
 use lib.Seq.{get_or_at}
 use Rattle.folds.specs.Fold.{count, joined, single, gather, always, listed, onto}
-use Rattle.folds.proofs.Below.{below-cases}
+use Rattle.folds.proofs.Below.{below_cases}
 use Rattle.folds.proofs.Count.{count_less}
-use Rattle.folds.proofs.Onto.{onto-none, onto-get, onto-store, onto-full}
-use Rattle.folds.proofs.Joined.{joined-alike, joined-none, joined-yes, joined-no, joined-rows}
+use Rattle.folds.proofs.Onto.{onto_none, onto_get, onto_store, onto_full}
+use Rattle.folds.proofs.Joined.{joined_alike, joined-none, joined-yes, joined-no, joined-rows}
 
 module _ (p : ℕ → Bool) (f : ℕ → ℕ) where
   pub gather-length : (n : ℕ) → length (gather p f n) ≡ count p n
@@ -26,7 +26,7 @@ module _ (p : ℕ → Bool) (f : ℕ → ℕ) where
   -- ---- a loop that stores f i at place j where i has p, with j ≡ count p i
 
   pub gather-start : (d : List ℕ) → d ≡ onto (gather p f 0) d
-  gather-start d = rw (joined-none p (single f), onto-none)
+  gather-start d = rw (joined-none p (single f), onto_none)
 
   pub gather-store : (i j v : ℕ) (r : Bool) (d s s' : List ℕ) → s ≡ onto (gather p f i) d → j ≡ count p i → j < length s → length s ≡ length d
       → r ≡ p i → r ≡ true → v ≡ f i → s' ≡ set s j v → s' ≡ onto (gather p f (i + 1)) d
@@ -34,7 +34,7 @@ module _ (p : ℕ → Bool) (f : ℕ → ℕ) where
       t
       ∙ ap (λ (x : List ℕ). set x j v) e
       ∙ ap (λ (m : ℕ). set (onto (gather p f i) d) m v) (k ∙ sym (gather-length i))
-      ∙ onto-store (gather p f i) d v (omega (arith, gather-length i))
+      ∙ onto_store (gather p f i) d v (omega (arith, gather-length i))
       ∙ ap (λ (x : List ℕ). onto x d) (ap (λ (m : ℕ). gather p f i ++ (m ∷ [])) g ∙ sym (gather-yes i (sym q ∙ h)))
 
   pub gather-pass : (i : ℕ) (r : Bool) (d s s' : List ℕ) → s ≡ onto (gather p f i) d → r ≡ p i → r ≡ false → s' ≡ s → s' ≡ onto (gather p f (i + 1)) d
@@ -45,47 +45,47 @@ module _ (p : ℕ → Bool) (f : ℕ → ℕ) where
 
   -- in a buffer that is just as long as the answer
   pub gather-full : (n i : ℕ) (d s : List ℕ) → s ≡ onto (gather p f i) d → i ≤ n → n ≤ i → length d ≡ count p n → s ≡ gather p f n
-  gather-full n i d s e h k l = gather-end n i d s e h k ∙ onto-full (gather p f n) d (gather-length n ∙ sym l)
+  gather-full n i d s e h k l = gather-end n i d s e h k ∙ onto_full (gather p f n) d (gather-length n ∙ sym l)
 
 -- values that agree where they are taken are gathered to one list
-pub gather-agree : (p : ℕ → Bool) (f h : ℕ → ℕ) (n : ℕ) → ((i : ℕ) → i < n → p i ≡ true → f i ≡ h i) → gather p f n ≡ gather p h n
+pub gather_agree : (p : ℕ → Bool) (f h : ℕ → ℕ) (n : ℕ) → ((i : ℕ) → i < n → p i ≡ true → f i ≡ h i) → gather p f n ≡ gather p h n
 unfolding single
-gather-agree p f h n e = joined-alike p p (single f) (single h) n (λ i w. refl) (λ i w q. ap (λ (x : ℕ). x ∷ []) (e i w q))
+gather_agree p f h n e = joined_alike p p (single f) (single h) n (λ i w. refl) (λ i w q. ap (λ (x : ℕ). x ∷ []) (e i w q))
 
-gather-last : (p : ℕ → Bool) (f : ℕ → ℕ) (n : ℕ) → p n ≡ true → get_or (gather p f (suc n)) (count p n) 0 ≡ f n
+gather_last : (p : ℕ → Bool) (f : ℕ → ℕ) (n : ℕ) → p n ≡ true → get_or (gather p f (suc n)) (count p n) 0 ≡ f n
 unfolding joined single
-gather-last p f n q = rw q (get_or_at (gather p f n) (f n) [] 0 (count p n) (gather-length p f n))
+gather_last p f n q = rw q (get_or_at (gather p f n) (f n) [] 0 (count p n) (gather-length p f n))
 
 -- the value of i stands at its own place
-pub gather-get : (p : ℕ → Bool) (f : ℕ → ℕ) (n i : ℕ) → i < n → p i ≡ true → get_or (gather p f n) (count p i) 0 ≡ f i
+pub gather_get : (p : ℕ → Bool) (f : ℕ → ℕ) (n i : ℕ) → i < n → p i ≡ true → get_or (gather p f n) (count p i) 0 ≡ f i
 unfolding joined
-gather-get p f zero i w h = absurd (omega arith)
-gather-get p f (suc n) i w h =
+gather_get p f zero i w h = absurd (omega arith)
+gather_get p f (suc n) i w h =
     ⊎_elim
-    (λ v. get_or-append (gather p f n) _ 0 (count p i) (omega (arith, gather-length p f n, count_less p i n v h)) ∙ gather-get p f n i v h)
-    (λ (e : i ≡ n). let q : p n ≡ true = rw e at h in rw e (gather-last p f n q))
-    (below-cases i n w)
+    (λ v. get_or-append (gather p f n) _ 0 (count p i) (omega (arith, gather-length p f n, count_less p i n v h)) ∙ gather_get p f n i v h)
+    (λ (e : i ≡ n). let q : p n ≡ true = rw e at h in rw e (gather_last p f n q))
+    (below_cases i n w)
 
 -- the place of the next store lies in a buffer that is as long as the whole answer
-pub gather-room : (p : ℕ → Bool) (n i j : ℕ) (r : Bool) (d s : List ℕ) → j ≡ count p i → i < n → r ≡ p i → r ≡ true → length s ≡ length d → length d ≡ count p n → j < length s
-gather-room p n i j r d s e w q h l m = omega (arith, count_less p i n w (sym q ∙ h))
+pub gather_room : (p : ℕ → Bool) (n i j : ℕ) (r : Bool) (d s : List ℕ) → j ≡ count p i → i < n → r ≡ p i → r ≡ true → length s ≡ length d → length d ≡ count p n → j < length s
+gather_room p n i j r d s e w q h l m = omega (arith, count_less p i n w (sym q ∙ h))
 
-pub ruleset gathers = (gather-start, gather-store, gather-pass, gather-room, gather-full)
+pub ruleset gathers = (gather-start, gather-store, gather-pass, gather_room, gather-full)
 
 -- ---- a value for each number
 
-pub always-true : (i : ℕ) → always i ≡ true
+pub always_true : (i : ℕ) → always i ≡ true
 unfolding always
-always-true i = refl
+always_true i = refl
 
-count-always : (n : ℕ) → count always n ≡ n
+count_always : (n : ℕ) → count always n ≡ n
 unfolding count always
-count-always zero = refl
-count-always (suc n) = omega (arith, count-always n)
+count_always zero = refl
+count_always (suc n) = omega (arith, count_always n)
 
 module _ (f : ℕ → ℕ) where
   pub listed-length : (n : ℕ) → length (listed f n) ≡ n
-  listed-length n = gather-length always f n ∙ count-always n
+  listed-length n = gather-length always f n ∙ count_always n
 
   listed_more : (i : ℕ) → listed f (i + 1) ≡ listed f i ++ (f i ∷ [])
   unfolding single always
@@ -97,7 +97,7 @@ module _ (f : ℕ → ℕ) where
   pub listed-store : (i : ℕ) (d : List ℕ) (v : ℕ) → i < length d → v ≡ f i → set (onto (listed f i) d) i v ≡ onto (listed f (i + 1)) d
   listed-store i d v h e =
       ap (λ (k : ℕ). set (onto (listed f i) d) k v) (sym (listed-length i))
-      ∙ onto-store (listed f i) d v (omega (arith, listed-length i))
+      ∙ onto_store (listed f i) d v (omega (arith, listed-length i))
       ∙ ap (λ (x : List ℕ). onto x d) (ap (λ (m : ℕ). listed f i ++ (m ∷ [])) e ∙ sym (listed_more i))
 
   pub listed-get : (n i : ℕ) → i < n → get_or (listed f n) i 0 ≡ f i
@@ -107,7 +107,7 @@ module _ (f : ℕ → ℕ) where
       ⊎_elim
       (λ w. get_or-append (listed f n) (f n ∷ []) 0 i (omega (arith, listed-length n)) ∙ listed-get n i w)
       (λ e. rw e (get_or_at (listed f n) (f n) [] 0 n (listed-length n)))
-      (below-cases i n h)
+      (below_cases i n h)
 
   pub listed_at : (n i : ℕ) (d : List ℕ) → i < n → get_or (onto (listed f n) d) i 0 ≡ f i
-  listed_at n i d h = onto-get (listed f n) d i (omega (arith, listed-length n)) ∙ listed-get n i h
+  listed_at n i d h = onto_get (listed f n) d i (omega (arith, listed-length n)) ∙ listed-get n i h

@@ -10,15 +10,15 @@ use native.Mathlib.Omega.{arith}
 use lib.ListN.{length, take, drop, length-append, length-drop}
 use lib.Seq.{take-append-le, drop-append-le, drop-append_seam, take-length}
 use Rattle.folds.specs.Fold.{whether, count, joined, onto}
-use Rattle.folds.proofs.Below.{below-cases}
-use Rattle.folds.proofs.Onto.{onto-none, onto-part}
+use Rattle.folds.proofs.Below.{below_cases}
+use Rattle.folds.proofs.Onto.{onto_none, onto_part}
 
 -- tests that agree, and rows that agree where they are taken
-pub joined-alike : (p q : ℕ → Bool) (g h : ℕ → List ℕ) (n : ℕ) → ((i : ℕ) → i < n → p i ≡ q i) → ((i : ℕ) → i < n → p i ≡ true → g i ≡ h i) → joined p g n ≡ joined q h n
+pub joined_alike : (p q : ℕ → Bool) (g h : ℕ → List ℕ) (n : ℕ) → ((i : ℕ) → i < n → p i ≡ q i) → ((i : ℕ) → i < n → p i ≡ true → g i ≡ h i) → joined p g n ≡ joined q h n
 unfolding joined
-joined-alike p q g h zero e f = refl
-joined-alike p q g h (suc n) e f =
-    ap₂ (λ (a b : List ℕ). a ++ b) (joined-alike p q g h n (λ i w. e i (omega arith)) (λ i w. f i (omega arith)))
+joined_alike p q g h zero e f = refl
+joined_alike p q g h (suc n) e f =
+    ap₂ (λ (a b : List ℕ). a ++ b) (joined_alike p q g h n (λ i w. e i (omega arith)) (λ i w. f i (omega arith)))
     (go (p n) refl ∙ ap (λ (b : Bool). whether b (h n) []) (e n (omega arith)))
   where
     go : (b : Bool) → p n ≡ b → whether b (g n) [] ≡ whether b (h n) []
@@ -26,7 +26,7 @@ joined-alike p q g h (suc n) e f =
     go false t = refl
 
 pub joined_same : (p : ℕ → Bool) (g h : ℕ → List ℕ) (n : ℕ) → ((i : ℕ) → i < n → g i ≡ h i) → joined p g n ≡ joined p h n
-joined_same p g h n e = joined-alike p p g h n (λ i w. refl) (λ i w t. e i w)
+joined_same p g h n e = joined_alike p p g h n (λ i w. refl) (λ i w t. e i w)
 
 module _ (p : ℕ → Bool) (g : ℕ → List ℕ) where
   pub joined-none : joined p g 0 ≡ []
@@ -48,7 +48,7 @@ module _ (p : ℕ → Bool) (g : ℕ → List ℕ) where
   unfolding joined
   joined-mono i zero h = let e : i ≡ 0 = omega arith in rw e (le_refl _)
   joined-mono i (suc n) h =
-      ⊎_elim (λ (w : i < suc n). le_trans (joined-mono i n (omega arith)) (rw length-append (omega arith))) (λ e. rw e (le_refl _)) (below-cases i (suc n) (omega arith))
+      ⊎_elim (λ (w : i < suc n). le_trans (joined-mono i n (omega arith)) (rw length-append (omega arith))) (λ e. rw e (le_refl _)) (below_cases i (suc n) (omega arith))
 
   -- rows of one length: as many as have p, times that length
   pub joined-rows : (k n : ℕ) → ((i : ℕ) → length (g i) ≡ k) → length (joined p g n) ≡ count p n * k
@@ -71,7 +71,7 @@ module _ (p : ℕ → Bool) (g : ℕ → List ℕ) where
       let b : length (g i) ≤ length (drop (length (joined p g i)) (joined p g n)) = simp length-drop (omega (arith, yes-length i q, joined-mono (i + 1) n (omega arith))) in
       rw (drop-append-le (length (joined p g i)) (joined p g n) (whether (p n) (g n) []) a, take-append-le (length (g i)) _ (whether (p n) (g n) []) b) (joined-part n i v q))
       (λ (e : i ≡ n). let r : p n ≡ true = rw (← e) q in rw (e, r, drop-append_seam (joined p g n) (g n), take-length (g n)))
-      (below-cases i n w)
+      (below_cases i n w)
 
   -- nothing more from k on
   pub joined-stop : (k n : ℕ) → k ≤ n → ((i : ℕ) → k ≤ i → i < n → whether (p i) (g i) [] ≡ []) → joined p g n ≡ joined p g k
@@ -81,7 +81,7 @@ module _ (p : ℕ → Bool) (g : ℕ → List ℕ) where
       ⊎_elim
       (λ (w : k < suc n). rw (e n (omega arith) (omega arith), append-nil) (joined-stop k n (omega arith) (λ i m v. e i m (omega arith))))
       (λ (w : k ≡ suc n). rw w refl)
-      (below-cases k (suc n) (omega arith))
+      (below_cases k (suc n) (omega arith))
 
   pub joined-most : (k n : ℕ) → ((i : ℕ) → i < n → length (g i) ≤ k) → length (joined p g n) ≤ n * k
   unfolding joined
@@ -95,7 +95,7 @@ module _ (p : ℕ → Bool) (g : ℕ → List ℕ) where
   -- ---- a loop that writes row i to its part where i has p; `at` is where the next part starts
 
   pub rows_start : (d : List ℕ) → d ≡ onto (joined p g 0) d
-  rows_start d = rw (joined-none, onto-none)
+  rows_start d = rw (joined-none, onto_none)
 
   pub rows-zero : 0 ≡ length (joined p g 0)
   rows-zero = rw joined-none
@@ -103,7 +103,7 @@ module _ (p : ℕ → Bool) (g : ℕ → List ℕ) where
   pub rows-put : (i at n : ℕ) (r : Bool) (d b b' row : List ℕ) → b ≡ onto (joined p g i) d → at ≡ length (joined p g i) → r ≡ p i → r ≡ true → n ≡ length (g i) → row ≡ g i
       → b' ≡ take at b ++ (row ++ drop (at + n - at) (drop at b)) → b' ≡ onto (joined p g (i + 1)) d
   rows-put i at n r d b b' row e ea q h en er t =
-      onto-part (joined p g i) row d b b' at n e ea (en ∙ ap length (sym er)) t
+      onto_part (joined p g i) row d b b' at n e ea (en ∙ ap length (sym er)) t
       ∙ ap (λ (x : List ℕ). onto x d) (ap (λ (x : List ℕ). joined p g i ++ x) er ∙ sym (joined-yes i (sym q ∙ h)))
 
   pub rows_pass : (i : ℕ) (r : Bool) (d b b' : List ℕ) → b ≡ onto (joined p g i) d → r ≡ p i → r ≡ false → b' ≡ b → b' ≡ onto (joined p g (i + 1)) d
@@ -123,9 +123,9 @@ module _ (p : ℕ → Bool) (g : ℕ → List ℕ) where
   rows_end i m d b e h k = e ∙ ap (λ (n : ℕ). onto (joined p g n) d) (le_antisymm h k)
 
 -- where every row below n is taken, and they are of one length
-pub joined-exact : (p : ℕ → Bool) (g : ℕ → List ℕ) (k n : ℕ) → ((i : ℕ) → i < n → p i ≡ true) → ((i : ℕ) → i < n → length (g i) ≡ k) → length (joined p g n) ≡ n * k
+pub joined_exact : (p : ℕ → Bool) (g : ℕ → List ℕ) (k n : ℕ) → ((i : ℕ) → i < n → p i ≡ true) → ((i : ℕ) → i < n → length (g i) ≡ k) → length (joined p g n) ≡ n * k
 unfolding joined
-joined-exact p g k zero h l = omega arith
-joined-exact p g k (suc n) h l = rw (h n (omega arith)) (simp length-append (omega (arith, l n (omega arith), joined-exact p g k n (λ i m. h i (omega arith)) (λ i m. l i (omega arith)))))
+joined_exact p g k zero h l = omega arith
+joined_exact p g k (suc n) h l = rw (h n (omega arith)) (simp length-append (omega (arith, l n (omega arith), joined_exact p g k n (λ i m. h i (omega arith)) (λ i m. l i (omega arith)))))
 
 pub ruleset rows = (rows_start, rows-zero, rows-put, rows_pass, rows_at, rows_stay, rows-room, rows_end)

@@ -11,62 +11,62 @@ use mir.Syntax.{w64}
 use mir.Val.{Fits}
 use Rattle.folds.specs.Fold.{onto}
 
-pub onto-none : (d : List ℕ) → onto [] d ≡ d
+pub onto_none : (d : List ℕ) → onto [] d ≡ d
 unfolding onto
-onto-none d = refl
+onto_none d = refl
 
-pub onto-length : (xs d : List ℕ) → length xs ≤ length d → length (onto xs d) ≡ length d
+pub onto_length : (xs d : List ℕ) → length xs ≤ length d → length (onto xs d) ≡ length d
 unfolding onto
-onto-length xs d h = simp (length-append, length-drop) (omega arith)
+onto_length xs d h = simp (length-append, length-drop) (omega arith)
 
 -- what covers the whole buffer is all of it
-pub onto-full : (xs d : List ℕ) → length xs ≡ length d → onto xs d ≡ xs
+pub onto_full : (xs d : List ℕ) → length xs ≡ length d → onto xs d ≡ xs
 unfolding onto
-onto-full xs d h = rw (h, drop-length, append-nil)
+onto_full xs d h = rw (h, drop-length, append-nil)
 
 -- what is written is read back: all of it, a part, an entry
-pub onto-front : (xs d : List ℕ) → take (length xs) (onto xs d) ≡ xs
+pub onto_front : (xs d : List ℕ) → take (length xs) (onto xs d) ≡ xs
 unfolding onto
-onto-front xs d = take-append_seam xs (drop (length xs) d)
+onto_front xs d = take-append_seam xs (drop (length xs) d)
 
-pub onto-slice : (xs d : List ℕ) (m k : ℕ) → m + k ≤ length xs → take k (drop m (onto xs d)) ≡ take k (drop m xs)
+pub onto_slice : (xs d : List ℕ) (m k : ℕ) → m + k ≤ length xs → take k (drop m (onto xs d)) ≡ take k (drop m xs)
 unfolding onto
-onto-slice xs d m k h =
+onto_slice xs d m k h =
     let l : k ≤ length (drop m xs) = simp length-drop (omega arith) in
     rw (drop-append-le m xs (drop (length xs) d) (omega arith), take-append-le k (drop m xs) (drop (length xs) d) l)
 
-pub onto-get : (xs d : List ℕ) (i : ℕ) → i < length xs → get_or (onto xs d) i 0 ≡ get_or xs i 0
+pub onto_get : (xs d : List ℕ) (i : ℕ) → i < length xs → get_or (onto xs d) i 0 ≡ get_or xs i 0
 unfolding onto
-onto-get xs d i h = get_or-append xs (drop (length xs) d) 0 i h
+onto_get xs d i h = get_or-append xs (drop (length xs) d) 0 i h
 
-pub onto-room : (xs d : List ℕ) → length xs ≤ length (onto xs d)
+pub onto_room : (xs d : List ℕ) → length xs ≤ length (onto xs d)
 unfolding onto
-onto-room xs d = rw length-append (omega arith)
+onto_room xs d = rw length-append (omega arith)
 
 -- a store right behind what is written
-pub onto-store : (xs d : List ℕ) (v : ℕ) → length xs < length d → set (onto xs d) (length xs) v ≡ onto (xs ++ (v ∷ [])) d
+pub onto_store : (xs d : List ℕ) (v : ℕ) → length xs < length d → set (onto xs d) (length xs) v ≡ onto (xs ++ (v ∷ [])) d
 unfolding onto
-onto-store xs d v h =
+onto_store xs d v h =
     rw (drop-cons d (length xs) 0 h, set-append_seam, append_snoc)
     (rw length-append (rw (add-one (length xs)) refl))
 
-onto-part₀ : (xs row d : List ℕ) → take (length xs) (onto xs d) ++ (row ++ drop (length xs + length row - length xs) (drop (length xs) (onto xs d))) ≡ onto (xs ++ row) d
+onto_part₀ : (xs row d : List ℕ) → take (length xs) (onto xs d) ++ (row ++ drop (length xs + length row - length xs) (drop (length xs) (onto xs d))) ≡ onto (xs ++ row) d
 unfolding onto
-onto-part₀ xs row d =
+onto_part₀ xs row d =
     let k : length xs + length row - length xs ≡ length row = omega arith in
     rw (k, take-append_seam, drop-append_seam, drop-drop, length-append, append_assoc)
 
 -- a part behind what is written, lent on and filled with a row: the buffer as a call `f(&mut s[at..at + n])` leaves it
-pub onto-part : (xs row d s s' : List ℕ) (at n : ℕ) → s ≡ onto xs d → at ≡ length xs → n ≡ length row
+pub onto_part : (xs row d s s' : List ℕ) (at n : ℕ) → s ≡ onto xs d → at ≡ length xs → n ≡ length row
     → s' ≡ take at s ++ (row ++ drop (at + n - at) (drop at s)) → s' ≡ onto (xs ++ row) d
-onto-part xs row d s s' at n e ea en t = t ∙ rw (e, ea, en) (onto-part₀ xs row d)
+onto_part xs row d s s' at n e ea en t = t ∙ rw (e, ea, en) (onto_part₀ xs row d)
 
 -- a list written to what is behind `at`, where `at` is the end of what was written before: the buffer as a call
 -- `f(&mut b[at..])` leaves it
-pub onto-behind : (ys xs d b b' row : List ℕ) (at m : ℕ) → length b ≡ m → b ≡ onto ys d → at ≡ length ys
+pub onto_behind : (ys xs d b b' row : List ℕ) (at m : ℕ) → length b ≡ m → b ≡ onto ys d → at ≡ length ys
     → row ≡ onto xs (take (m - at) (drop at b)) → b' ≡ take at b ++ (row ++ drop (m - at) (drop at b)) → b' ≡ onto (ys ++ xs) d
 unfolding onto
-onto-behind ys xs d b b' row at m l e k r h =
+onto_behind ys xs d b b' row at m l e k r h =
     let n : m - at ≡ length (drop at b) = rw (← l) (sym (length-drop at b)) in
     let f : take at b ≡ ys = rw (e, k) (take-append_seam ys (drop (length ys) d)) in
     let g : drop at b ≡ drop (length ys) d = rw (e, k) (drop-append_seam ys (drop (length ys) d)) in
@@ -79,17 +79,17 @@ pub part_length : (n at k : ℕ) (b : List ℕ) → at + n ≤ length b → n �
 part_length n at k b h e = simp (length-take, length-drop) (omega arith)
 
 -- the end of a part that lies in the buffer fits
-pub part-fits : (n at : ℕ) (d b : List ℕ) → at + n ≤ length b → length b ≡ length d → length d < 2 ^ 64 → Fits w64 (at + n)
-part-fits n at d b h l m = record { fits = lt_of_le_of_lt h (rw l m) }
+pub part_fits : (n at : ℕ) (d b : List ℕ) → at + n ≤ length b → length b ≡ length d → length d < 2 ^ 64 → Fits w64 (at + n)
+part_fits n at d b h l m = record { fits = lt_of_le_of_lt h (rw l m) }
 
 -- a store, no store, and a part that came back keep the length
-pub kept-set : (s s' d : List ℕ) (j v : ℕ) → s' ≡ set s j v → length s ≡ length d → length s' ≡ length d
-kept-set s s' d j v e l = ap length e ∙ length-set s j v ∙ l
+pub kept_set_lem : (s s' d : List ℕ) (j v : ℕ) → s' ≡ set s j v → length s ≡ length d → length s' ≡ length d
+kept_set_lem s s' d j v e l = ap length e ∙ length-set s j v ∙ l
 
 pub kept_same : (s s' d : List ℕ) → s' ≡ s → length s ≡ length d → length s' ≡ length d
 kept_same s s' d e l = ap length e ∙ l
 
-pub kept-part : (d b b' x : List ℕ) → b' ≡ x → length x ≡ length b → length b ≡ length d → length b' ≡ length d
-kept-part d b b' x e f g = ap length e ∙ f ∙ g
+pub kept_part : (d b b' x : List ℕ) → b' ≡ x → length x ≡ length b → length b ≡ length d → length b' ≡ length d
+kept_part d b b' x e f g = ap length e ∙ f ∙ g
 
-pub ruleset keeps = (kept-set, kept_same)
+pub ruleset keeps = (kept_set_lem, kept_same)

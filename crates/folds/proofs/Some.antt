@@ -8,15 +8,15 @@ use native.Mathlib.Numerals.{add-one}
 use native.Mathlib.Omega.{arith}
 use Rattle.folds.specs.Fold.{either}
 use Rattle.folds.specs.Some.{some}
-use Rattle.folds.proofs.Below.{below-cases}
-use Rattle.folds.proofs.Bools.{clash, either_left, either-right}
+use Rattle.folds.proofs.Below.{below_cases}
+use Rattle.folds.proofs.Bools.{clash, either_left, either_right}
 
 module _ (p : ℕ → Bool) where
   pub some_of : (n i : ℕ) → i < n → p i ≡ true → some p n ≡ true
   unfolding some
   some_of zero i h q = absurd (omega arith)
   some_of (suc n) i h q =
-      ⊎_elim (λ l. either_left _ _ (some_of n i l q)) (λ e. either-right (some p n) _ (rw e at q)) (below-cases i n h)
+      ⊎_elim (λ l. either_left _ _ (some_of n i l q)) (λ e. either_right (some p n) _ (rw e at q)) (below_cases i n h)
 
   pub some_at : (n : ℕ) → some p n ≡ true → (i : ℕ) × (i < n) × (p i ≡ true)
   unfolding some

@@ -1,12 +1,12 @@
 // What each kind of record adds to the table.
 ghost use Rattle.std.specs.Prelude.{◌≡◌, ◌≤◌, ◌<◌};
-ghost use Rattle.grow.specs.Grow.{withTest, filled, withFault, withResponse};
+ghost use Rattle.grow.specs.Grow.{with_test, filled, with_fault, with_response};
 
 use table::Table;
 
 pub fn with_test(table: Table, output: u8) -> Table
     requires { table.tests < 24 }
-    ensures { result ≡ withTest table output }
+    ensures { result ≡ with_test table output }
 {
     let tests = table.tests;
     let at = table::inner::place(tests, 0);
@@ -34,7 +34,7 @@ fn filled(cells: [u8; 1464], column: usize, tests: usize) -> [u8; 1464]
 
 pub fn with_fault(table: Table, line: u8, stuck: u8) -> Table
     requires { (table.tests ≤ 24) × (table.faults < 60) }
-    ensures { result ≡ withFault table line stuck }
+    ensures { result ≡ with_fault table line stuck }
 {
     let f = table.faults;
     let before = table.cells;
@@ -49,7 +49,7 @@ pub fn with_fault(table: Table, line: u8, stuck: u8) -> Table
 
 pub fn with_response(table: Table, test: usize, fault: usize, output: u8) -> Table
     requires { (test < 24) × (fault < 60) }
-    ensures { result ≡ withResponse table test fault output }
+    ensures { result ≡ with_response table test fault output }
 {
     let at = table::inner::place(test, fault + 1);
     let mut next = table;

@@ -54,8 +54,8 @@ abbrev pub R : Lft → RattleType
 R κ = T.the_row (α κ)
 
 -- a step that a call gave, at its own machine value
-pub step-spelt : (t : Stepped) (u : Val) → Is S.the_row t (u ∷ []) → Is S.the_row t (LL.vals S.the_type S'.the_laws t)
-step-spelt t u is = subst (Is S.the_row t) (LL.tells S.the_type S'.the_laws t (u ∷ []) is) is
+pub step_spelt : (t : Stepped) (u : Val) → Is S.the_row t (u ∷ []) → Is S.the_row t (LL.vals S.the_type S'.the_laws t)
+step_spelt t u is = subst (Is S.the_row t) (LL.tells S.the_type S'.the_laws t (u ∷ []) is) is
 
 -- a function's locals where they were put: what a walk names after a branch
 abbrev pub env : List Local → List ℕ → List (Ty × ℕ)

@@ -7,13 +7,13 @@ use Rattle.records.specs.declared.Outcome.TheVariants.{Given, Accepted, Refused}
 use Rattle.table.specs.declared.Verdict.TheVariants as verdict
 
 -- no record follows
-abbrev pub isLast : Outcome → Bool
-isLast (Given r) = false
-isLast Accepted = true
-isLast (Refused why) = true
+abbrev pub is_last : Outcome → Bool
+is_last (Given r) = false
+is_last Accepted = true
+is_last (Refused why) = true
 
 -- what a step says of the book as far as it was read: why it is refused, or that it is not
-abbrev pub verdictOf : Outcome → Verdict
-verdictOf (Given r) = verdict.Accepted
-verdictOf Accepted = verdict.Accepted
-verdictOf (Refused why) = verdict.Refused why
+abbrev pub verdict_of : Outcome → Verdict
+verdict_of (Given r) = verdict.Accepted
+verdict_of Accepted = verdict.Accepted
+verdict_of (Refused why) = verdict.Refused why

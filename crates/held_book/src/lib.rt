@@ -1,11 +1,11 @@
 // A reader that keeps the lent book and its next place; what has been read so far goes in and comes back beside it.
 ghost use Rattle.std.specs.Prelude.{◌≡◌};
-ghost use Rattle.book.specs.Reading.{readBook, reading_of, ReadingIs};
-ghost use Rattle.book.specs.RecordAt.{recordAt};
+ghost use Rattle.book.specs.Reading.{read_book, reading_of, ReadingIs};
+ghost use Rattle.book.specs.RecordAt.{record_at};
 ghost use Rattle.held_book.specs.Held.{Keeps, GivesNext};
-ghost use Rattle.held_book.specs.Last.{isLast, verdictOf};
+ghost use Rattle.held_book.specs.Last.{is_last, verdict_of};
 ghost use Rattle.records.specs.StepIs.{StepIs};
-ghost use Rattle.table.specs.Answers.{verdictNumber};
+ghost use Rattle.table.specs.Answers.{verdict_number};
 
 use records::{Outcome, SoFar, Stepped};
 use table::{Reading, Verdict};
@@ -35,7 +35,7 @@ pub fn next<'s, 'a>(reader: &'s mut Reader<'a>, sofar: SoFar) -> Stepped
 
 // What the reader gives at a place of a book. Its parameters are plain: its callers need not know the reader.
 pub fn step_held(book: &[u8], place: usize, sofar: SoFar) -> Stepped
-    ensures { StepIs (recordAt book.now place sofar) result }
+    ensures { StepIs (record_at book.now place sofar) result }
 {
     let mut reader = Reader { book, at: place };
     next(&mut reader, sofar)
@@ -43,7 +43,7 @@ pub fn step_held(book: &[u8], place: usize, sofar: SoFar) -> Stepped
 
 // Whether no record follows a step.
 fn is_last(got: Stepped) -> bool
-    ensures { result ≡ isLast got.outcome }
+    ensures { result ≡ is_last got.outcome }
 {
     let outcome = got.outcome;
     match outcome {
@@ -55,7 +55,7 @@ fn is_last(got: Stepped) -> bool
 
 // What a step says of the book as far as it was read: why it is refused, or that it is not.
 fn verdict(outcome: Outcome) -> Verdict
-    ensures { result ≡ verdictOf outcome }
+    ensures { result ≡ verdict_of outcome }
 {
     match outcome {
         Outcome::Refused(why) => Verdict::Refused(why),
@@ -65,7 +65,7 @@ fn verdict(outcome: Outcome) -> Verdict
 }
 
 fn ended(got: Stepped) -> Reading
-    ensures { ReadingIs (reading_of (verdictNumber (verdictOf got.outcome)) got) result }
+    ensures { ReadingIs (reading_of (verdict_number (verdict_of got.outcome)) got) result }
 {
     let outcome = got.outcome;
     book::inner::stopped(verdict(outcome), got)
@@ -73,7 +73,7 @@ fn ended(got: Stepped) -> Reading
 
 // The reading of a whole book, by one reader from its first record to its last.
 pub fn read_held(book: &[u8]) -> Reading
-    ensures { ReadingIs (readBook book.now) result }
+    ensures { ReadingIs (read_book book.now) result }
 {
     let mut reader = hold(book);
     let mut sofar = book::begin();

@@ -7,44 +7,44 @@ use native.Mathlib.Omega.{arith}
 use borrow.Author.Tests.{eq-eqb, ne_eqb}
 use lib.ListN.{get_or}
 use Rattle.folds.specs.Fold.{count, joined}
-use Rattle.items.specs.Items.{goodWord, listText, memberText, noneWord, spaced}
-use Rattle.items.specs.Inner.{inClass, outputItem}
+use Rattle.items.specs.Items.{good_word, list_text, member_text, none_word, spaced}
+use Rattle.items.specs.Inner.{in_class, output_item}
 use Rattle.text.proofs.Writes.{writes_then}
-use Rattle.text.specs.Decimal.{decimalOf}
+use Rattle.text.specs.Decimal.{decimal_of}
 use Rattle.text.specs.Writes.{Writes}
 
-pub spaced-done : (at n r r' : ℕ) (b b' b'' : List ℕ) → Writes at (32 ∷ []) b r b' → Writes r (decimalOf n) b' r' b'' → Writes at (spaced n) b r' b''
+pub spaced_done : (at n r r' : ℕ) (b b' b'' : List ℕ) → Writes at (32 ∷ []) b r b' → Writes r (decimal_of n) b' r' b'' → Writes at (spaced n) b r' b''
 unfolding spaced
-spaced-done at n r r' b b' b'' v w = writes_then at r r' (32 ∷ []) (decimalOf n) b b' b'' v w
+spaced_done at n r r' b b' b'' v w = writes_then at r r' (32 ∷ []) (decimal_of n) b b' b'' v w
 
 module _ (p : ℕ → Bool) (item : ℕ → List ℕ) (n k at r : ℕ) (b b' : List ℕ) (e : k ≡ count p n) where
-  pub list-none : k ≡ 0 → Writes at noneWord b r b' → Writes at (listText p item n) b r b'
-  unfolding listText
+  pub list-none : k ≡ 0 → Writes at none_word b r b' → Writes at (list_text p item n) b r b'
+  unfolding list_text
   list-none z w = rw (eq-eqb (count p n) 0 (sym e ∙ z)) w
 
-  pub list-some : (k ≡ 0 → ⊥) → Writes at (joined p item n) b r b' → Writes at (listText p item n) b r b'
-  unfolding listText
+  pub list-some : (k ≡ 0 → ⊥) → Writes at (joined p item n) b r b' → Writes at (list_text p item n) b r b'
+  unfolding list_text
   list-some ne w = rw (ne_eqb (count p n) 0 (λ z. ne (e ∙ z))) w
 
-pub output-done : (out : ℕ → ℕ → ℕ) (c t v n at r : ℕ) (b b' : List ℕ) → v ≡ out t c → n ≡ v → Writes at (spaced n) b r b' → Writes at (outputItem out c t) b r b'
-unfolding outputItem
-output-done out c t v n at r b b' e f w = rw (← e, ← f) w
+pub output_done : (out : ℕ → ℕ → ℕ) (c t v n at r : ℕ) (b b' : List ℕ) → v ≡ out t c → n ≡ v → Writes at (spaced n) b r b' → Writes at (output_item out c t) b r b'
+unfolding output_item
+output_done out c t v n at r b b' e f w = rw (← e, ← f) w
 
-pub member-good : (lines stuck : List ℕ) (c at r : ℕ) (b b' : List ℕ) → c ≡ 0 → Writes at (32 ∷ goodWord) b r b' → Writes at (memberText lines stuck c) b r b'
-unfolding memberText
-member-good lines stuck zero at r b b' e w = w
-member-good lines stuck (suc f) at r b b' e w = absurd (omega arith)
+pub member_good : (lines stuck : List ℕ) (c at r : ℕ) (b b' : List ℕ) → c ≡ 0 → Writes at (32 ∷ good_word) b r b' → Writes at (member_text lines stuck c) b r b'
+unfolding member_text
+member_good lines stuck zero at r b b' e w = w
+member_good lines stuck (suc f) at r b b' e w = absurd (omega arith)
 
-pub member-fault : (lines stuck : List ℕ) (c at line value r r' r'' : ℕ) (b b' b'' b''' : List ℕ) → (c ≡ 0 → ⊥) → line ≡ get_or lines (c - 1) 0 → value ≡ get_or stuck (c - 1) 0
-    → Writes at (spaced line) b r b' → Writes r (47 ∷ []) b' r' b'' → Writes r' (decimalOf value) b'' r'' b''' → Writes at (memberText lines stuck c) b r'' b'''
-unfolding memberText
-member-fault lines stuck zero at line value r r' r'' b b' b'' b''' ne el ev u v w = absurd (ne refl)
-member-fault lines stuck (suc f) at line value r r' r'' b b' b'' b''' ne el ev u v w =
+pub member_fault : (lines stuck : List ℕ) (c at line value r r' r'' : ℕ) (b b' b'' b''' : List ℕ) → (c ≡ 0 → ⊥) → line ≡ get_or lines (c - 1) 0 → value ≡ get_or stuck (c - 1) 0
+    → Writes at (spaced line) b r b' → Writes r (47 ∷ []) b' r' b'' → Writes r' (decimal_of value) b'' r'' b''' → Writes at (member_text lines stuck c) b r'' b'''
+unfolding member_text
+member_fault lines stuck zero at line value r r' r'' b b' b'' b''' ne el ev u v w = absurd (ne refl)
+member_fault lines stuck (suc f) at line value r r' r'' b b' b'' b''' ne el ev u v w =
     let f-is : suc f - 1 ≡ f = omega arith in
     rw (← ap (λ (x : ℕ). get_or lines x 0) f-is, ← ap (λ (x : ℕ). get_or stuck x 0) f-is, ← el, ← ev)
-    (writes_then at r r'' (spaced line) (47 ∷ decimalOf value) b b' b''' u (writes_then r r' r'' (47 ∷ []) (decimalOf value) b' b'' b''' v w))
+    (writes_then at r r'' (spaced line) (47 ∷ decimal_of value) b b' b''' u (writes_then r r' r'' (47 ∷ []) (decimal_of value) b' b'' b''' v w))
 
 -- a column whose number is k is of class k
-pub class-is : (of : List ℕ) (k c : ℕ) → get_or of c 0 ≡ k → inClass of k c ≡ true
-unfolding inClass
-class-is of k c e = eq-eqb (get_or of c 0) k e
+pub class_is : (of : List ℕ) (k c : ℕ) → get_or of c 0 ≡ k → in_class of k c ≡ true
+unfolding in_class
+class_is of k c e = eq-eqb (get_or of c 0) k e

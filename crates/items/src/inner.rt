@@ -1,8 +1,8 @@
 // The items of a line, each with a space before it.
 ghost use Rattle.std.specs.Prelude.{◌≤◌, ◌<◌, ◌≡◌};
 ghost use Rattle.folds.specs.Fold.{joined};
-ghost use Rattle.items.specs.Items.{memberText, noneWord, spaced, testsText};
-ghost use Rattle.items.specs.Inner.{inClass, membersText, outputItem, signatureText};
+ghost use Rattle.items.specs.Items.{member_text, none_word, spaced, tests_text};
+ghost use Rattle.items.specs.Inner.{in_class, members_text, output_item, signature_text};
 ghost use Rattle.sets.specs.Sets.{has};
 ghost use Rattle.table.specs.Table.{cell_at};
 ghost use Rattle.text.specs.Writes.{Writes};
@@ -31,7 +31,7 @@ fn some_tests(buf: &mut [u8], at: usize, set: u32, tests: usize) -> usize
 
 // The word for an empty list.
 fn none(buf: &mut [u8], at: usize) -> usize
-    ensures { Writes at noneWord buf.old result buf.new }
+    ensures { Writes at none_word buf.old result buf.new }
 {
     text::inner::word(buf, at, b" none")
 }
@@ -39,7 +39,7 @@ fn none(buf: &mut [u8], at: usize) -> usize
 // The tests of a set.
 pub fn tests(buf: &mut [u8], at: usize, set: u32, tests: usize) -> usize
     requires { tests ≤ 24 }
-    ensures { Writes at (testsText set tests) buf.old result buf.new }
+    ensures { Writes at (tests_text set tests) buf.old result buf.new }
 {
     if sets::inner::size(set as u64, tests) == 0 {
         return none(buf, at);
@@ -49,14 +49,14 @@ pub fn tests(buf: &mut [u8], at: usize, set: u32, tests: usize) -> usize
 
 fn output(buf: &mut [u8], at: usize, cells: &[u8; 1464], c: usize, t: usize) -> usize
     requires { (c < 61) × (t < 24) }
-    ensures { Writes at (outputItem (cell_at cells.now) c t) buf.old result buf.new }
+    ensures { Writes at (output_item (cell_at cells.now) c t) buf.old result buf.new }
 {
     spaced(buf, at, table::inner::wide(table::inner::cell(cells, t, c)))
 }
 
 fn outputs(buf: &mut [u8], at: usize, cells: &[u8; 1464], tests: usize, set: u32, c: usize) -> usize
     requires { (tests ≤ 24) × (c < 61) }
-    ensures { Writes at (joined (has set) (outputItem (cell_at cells.now) c) tests) buf.old result buf.new }
+    ensures { Writes at (joined (has set) (output_item (cell_at cells.now) c) tests) buf.old result buf.new }
 {
     let mut next = at;
     let mut i = 0;
@@ -79,7 +79,7 @@ pub fn signature(
     c: usize,
 ) -> usize
     requires { (tests ≤ 24) × (c < 61) }
-    ensures { Writes at (signatureText (cell_at cells.now) tests set c) buf.old result buf.new }
+    ensures { Writes at (signature_text (cell_at cells.now) tests set c) buf.old result buf.new }
 {
     if sets::inner::size(set as u64, tests) == 0 {
         return none(buf, at);
@@ -95,7 +95,7 @@ fn member<'a>(
     c: usize,
 ) -> usize
     requires { c < 61 }
-    ensures { Writes at (memberText lines.now stuck.now c) buf.old result buf.new }
+    ensures { Writes at (member_text lines.now stuck.now c) buf.old result buf.new }
 {
     if c == 0 {
         return text::inner::word(buf, at, b" good");
@@ -109,7 +109,7 @@ fn member<'a>(
 // Whether column c is of class k.
 pub fn in_class(of: &[u8; 61], k: usize, c: usize) -> bool
     requires { c < 61 }
-    ensures { result ≡ inClass of.now k c }
+    ensures { result ≡ in_class of.now k c }
 {
     table::inner::wide(of[c]) == k
 }
@@ -125,7 +125,7 @@ pub fn members<'a>(
     k: usize,
 ) -> usize
     requires { columns ≤ 61 }
-    ensures { Writes at (membersText lines.now stuck.now of.now columns k) buf.old result buf.new }
+    ensures { Writes at (members_text lines.now stuck.now of.now columns k) buf.old result buf.new }
 {
     let mut next = at;
     let mut c = 0;

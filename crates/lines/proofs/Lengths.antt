@@ -3,21 +3,21 @@ use mathlib.Core.List.{List}
 use Prim.Native.Nat.{ℕ, ◌+◌, ◌≤◌, ◌<◌}
 use native.Mathlib.Omega.{arith}
 use lib.ListN.{length, length-append}
-use Rattle.table.proofs.Stored.{cell-byte}
-use Rattle.classes.specs.Classes.{classNumbers}
+use Rattle.table.proofs.Stored.{cell_byte}
+use Rattle.classes.specs.Classes.{class_numbers}
 use Rattle.folds.specs.Fold.{always, count, first}
-use Rattle.folds.proofs.Lengths.{length_of, rows-total, total-most}
-use Rattle.items.proofs.Lengths.{membersLength, members-most, signature-most, spaced-most, tests-most}
-use Rattle.items.specs.Inner.{inClass}
-use Rattle.lines.specs.Classed.{classTail, lineBy, linesBy}
-use Rattle.lines.specs.Text.{asideWord, classHead, detectWord, diagnoseWord, essentialWord, refusedText, setLine, setLines, sizesLine, tableText}
+use Rattle.folds.proofs.Lengths.{length_of, rows_total, total_most}
+use Rattle.items.proofs.Lengths.{members_length, members_most, signature_most, spaced_most, tests_most}
+use Rattle.items.specs.Inner.{in_class}
+use Rattle.lines.specs.Classed.{class_tail, line_by, lines_by}
+use Rattle.lines.specs.Text.{aside_word, class_head, detect_word, diagnose_word, essential_word, refused_text, set_line, set_lines, sizes_line, table_text}
 use Rattle.lines.proofs.Said.{classes-said}
-use Rattle.table.specs.Table.{columns, outputAt}
+use Rattle.table.specs.Table.{columns, output_at}
 use Rattle.table.specs.WellFormed.{WellFormed}
 use Rattle.table.specs.OfType.{OfType}
 use Rattle.table.specs.declared.Table.{Table}
-use Rattle.terms.specs.Terms.{classCount}
-use Rattle.terms_laws.proofs.Classes.{few-classes}
+use Rattle.terms.specs.Terms.{class_count}
+use Rattle.terms_laws.proofs.Classes.{few_classes}
 
 -- 30 for the sizes, 320 for the four sets, 109 for each of 61 classes without its members, 365 for all members
 abbrev pub longest : ℕ
@@ -26,57 +26,57 @@ longest = 7364
 module _ (tb : Table) (w : WellFormed tb) (o : OfType tb) where
   -- ---- lines
 
-  class-most : (of : List ℕ) (s k : ℕ) → k < 61 → length (lineBy tb of s k) ≤ 109 + membersLength tb.lines tb.stuck of (columns tb) k
-  unfolding lineBy classHead classTail
+  class-most : (of : List ℕ) (s k : ℕ) → k < 61 → length (line_by tb of s k) ≤ 109 + members_length tb.lines tb.stuck of (columns tb) k
+  unfolding line_by class_head class_tail
   class-most of s k h = simp length-append (omega (
     arith,
-    spaced-most 1 k (omega arith),
-    signature-most (outputAt tb) tb.tests s (first (inClass of k) (columns tb)) w.tests-fit (cell-byte tb.cells o.cells-bytes),
+    spaced_most 1 k (omega arith),
+    signature_most (output_at tb) tb.tests s (first (in_class of k) (columns tb)) w.tests_fit (cell_byte tb.cells o.cells_bytes),
   ))
 
-  classes-most : (of : List ℕ) (s n : ℕ) → n ≤ 61 → length (linesBy tb of s n) ≤ 7014
-  unfolding linesBy length_of
+  classes-most : (of : List ℕ) (s n : ℕ) → n ≤ 61 → length (lines_by tb of s n) ≤ 7014
+  unfolding lines_by length_of
   classes-most of s n h = omega (
     arith,
-    rows-total always (lineBy tb of s) n,
-    total-most (length_of (lineBy tb of s)) (membersLength tb.lines tb.stuck of (columns tb)) 109 n (λ k l. class-most of s k (omega arith)),
-    members-most tb.lines tb.stuck of tb.faults n w.faults-fit o.lines-bytes w.stuck-fit,
+    rows_total always (line_by tb of s) n,
+    total_most (length_of (line_by tb of s)) (members_length tb.lines tb.stuck of (columns tb)) 109 n (λ k l. class-most of s k (omega arith)),
+    members_most tb.lines tb.stuck of tb.faults n w.faults_fit o.lines_bytes w.stuck_fit,
   )
 
-  set-most : (word : List ℕ) (s : ℕ) → length (setLine word s tb.tests) ≤ length word + 73
-  unfolding setLine
-  set-most word s = simp length-append (omega (arith, tests-most s tb.tests w.tests-fit))
+  set-most : (word : List ℕ) (s : ℕ) → length (set_line word s tb.tests) ≤ length word + 73
+  unfolding set_line
+  set-most word s = simp length-append (omega (arith, tests_most s tb.tests w.tests_fit))
 
-  sets-most : (aside essential detect diagnose : ℕ) → length (setLines tb.tests aside essential detect diagnose) ≤ 320
-  unfolding setLines
+  sets-most : (aside essential detect diagnose : ℕ) → length (set_lines tb.tests aside essential detect diagnose) ≤ 320
+  unfolding set_lines
   sets-most aside essential detect diagnose = simp length-append (omega (
     arith,
-    set-most asideWord aside,
-    set-most essentialWord essential,
-    set-most detectWord detect,
-    set-most diagnoseWord diagnose,
+    set-most aside_word aside,
+    set-most essential_word essential,
+    set-most detect_word detect,
+    set-most diagnose_word diagnose,
   ))
 
-  sizes-most : (n : ℕ) → n ≤ 61 → length (sizesLine tb.tests tb.faults n) ≤ 30
-  unfolding sizesLine
+  sizes-most : (n : ℕ) → n ≤ 61 → length (sizes_line tb.tests tb.faults n) ≤ 30
+  unfolding sizes_line
   sizes-most n h = simp length-append (omega (
     arith,
-    spaced-most 1 tb.tests (omega (arith, w.tests-fit)),
-    spaced-most 1 tb.faults (omega (arith, w.faults-fit)),
-    spaced-most 1 n (omega arith),
+    spaced_most 1 tb.tests (omega (arith, w.tests_fit)),
+    spaced_most 1 tb.faults (omega (arith, w.faults_fit)),
+    spaced_most 1 n (omega arith),
   ))
 
-  pub table-most : (aside essential detect diagnose : ℕ) → length (tableText tb aside essential detect diagnose) ≤ longest
-  unfolding tableText
-  table-most aside essential detect diagnose = rw (← classes-said tb diagnose (classCount tb)) (simp length-append (omega (
+  pub table-most : (aside essential detect diagnose : ℕ) → length (table_text tb aside essential detect diagnose) ≤ longest
+  unfolding table_text
+  table-most aside essential detect diagnose = rw (← classes-said tb diagnose (class_count tb)) (simp length-append (omega (
     arith,
-    sizes-most (classCount tb) (few-classes tb w),
+    sizes-most (class_count tb) (few_classes tb w),
     sets-most aside essential detect diagnose,
-    classes-most (classNumbers tb) diagnose (classCount tb) (few-classes tb w),
+    classes-most (class_numbers tb) diagnose (class_count tb) (few_classes tb w),
   )))
 
 -- ---- a refused book
 
-pub refused-most : (number place : ℕ) → number < 100 → place ≤ 5991 → length (refusedText number place) ≤ longest
-unfolding refusedText
-refused-most number place h l = simp length-append (omega (arith, spaced-most 1 number (omega arith), spaced-most 3 place (omega arith)))
+pub refused_most : (number place : ℕ) → number < 100 → place ≤ 5991 → length (refused_text number place) ≤ longest
+unfolding refused_text
+refused_most number place h l = simp length-append (omega (arith, spaced_most 1 number (omega arith), spaced_most 3 place (omega arith)))

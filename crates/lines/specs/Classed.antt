@@ -3,22 +3,22 @@
 -- Assumes nothing.
 use Rattle.std.specs.Prelude.{List, ◌++◌, ℕ, ◌<◌}
 use Rattle.folds.specs.Fold.{always, first, joined}
-use Rattle.items.specs.Inner.{inClass, membersText, signatureText}
-use Rattle.table.specs.Table.{outputAt, columns}
+use Rattle.items.specs.Inner.{in_class, members_text, signature_text}
+use Rattle.table.specs.Table.{output_at, columns}
 use Rattle.table.specs.declared.Table.{Table}
-use Rattle.lines.specs.Text.{classHead, colonWord, newline}
+use Rattle.lines.specs.Text.{class_head, colon_word, newline}
 
 -- each class number below `count` is some column's
 pub record NoneEmpty (tb : Table) (of : List ℕ) (count : ℕ) : Type 0 where
-  pub has : (k : ℕ) → k < count → first (inClass of k) (columns tb) < columns tb
+  pub has : (k : ℕ) → k < count → first (in_class of k) (columns tb) < columns tb
 
-unfoldable pub classTail : Table → List ℕ → ℕ → List ℕ
-classTail tb of k = colonWord ++ (membersText tb.lines tb.stuck of (columns tb) k ++ newline)
+unfoldable pub class_tail : Table → List ℕ → ℕ → List ℕ
+class_tail tb of k = colon_word ++ (members_text tb.lines tb.stuck of (columns tb) k ++ newline)
 
 -- class k, whose lowest column is the first that has its number
-unfoldable pub lineBy : Table → List ℕ → ℕ → ℕ → List ℕ
-lineBy tb of s k =
-    classHead k ++ (signatureText (outputAt tb) tb.tests s (first (inClass of k) (columns tb)) ++ classTail tb of k)
+unfoldable pub line_by : Table → List ℕ → ℕ → ℕ → List ℕ
+line_by tb of s k =
+    class_head k ++ (signature_text (output_at tb) tb.tests s (first (in_class of k) (columns tb)) ++ class_tail tb of k)
 
-unfoldable pub linesBy : Table → List ℕ → ℕ → ℕ → List ℕ
-linesBy tb of s n = joined always (lineBy tb of s) n
+unfoldable pub lines_by : Table → List ℕ → ℕ → ℕ → List ℕ
+lines_by tb of s n = joined always (line_by tb of s) n

@@ -1,9 +1,9 @@
 // The lines of the text.
 ghost use Rattle.std.specs.Prelude.{◌≤◌, ◌<◌, ◌≡◌};
 ghost use Rattle.folds.specs.Fold.{first};
-ghost use Rattle.items.specs.Inner.{inClass};
-ghost use Rattle.lines.specs.Classed.{NoneEmpty, classTail, lineBy, linesBy};
-ghost use Rattle.lines.specs.Text.{classHead, refusedText, setLine, setLines, sizesLine, tableText};
+ghost use Rattle.items.specs.Inner.{in_class};
+ghost use Rattle.lines.specs.Classed.{NoneEmpty, class_tail, line_by, lines_by};
+ghost use Rattle.lines.specs.Text.{class_head, refused_text, set_line, set_lines, sizes_line, table_text};
 ghost use Rattle.table.specs.Table.{columns};
 ghost use Rattle.table.specs.WellFormed.{WellFormed};
 ghost use Rattle.text.specs.Writes.{Writes};
@@ -11,7 +11,7 @@ ghost use Rattle.text.specs.Writes.{Writes};
 use table::Table;
 
 pub fn refused(buf: &mut [u8], at: usize, number: usize, place: usize) -> usize
-    ensures { Writes at (refusedText number place) buf.old result buf.new }
+    ensures { Writes at (refused_text number place) buf.old result buf.new }
 {
     let a = text::inner::word(buf, at, b"refused");
     let b = items::inner::spaced(buf, a, number);
@@ -21,7 +21,7 @@ pub fn refused(buf: &mut [u8], at: usize, number: usize, place: usize) -> usize
 }
 
 fn sizes(buf: &mut [u8], at: usize, tests: usize, faults: usize, classes: usize) -> usize
-    ensures { Writes at (sizesLine tests faults classes) buf.old result buf.new }
+    ensures { Writes at (sizes_line tests faults classes) buf.old result buf.new }
 {
     let a = text::inner::word(buf, at, b"tests");
     let b = items::inner::spaced(buf, a, tests);
@@ -35,7 +35,7 @@ fn sizes(buf: &mut [u8], at: usize, tests: usize, faults: usize, classes: usize)
 // A word and the tests of a set.
 fn set<'a>(buf: &mut [u8], at: usize, word: &'a [u8], set: u32, tests: usize) -> usize
     requires { tests ≤ 24 }
-    ensures { Writes at (setLine word.now set tests) buf.old result buf.new }
+    ensures { Writes at (set_line word.now set tests) buf.old result buf.new }
 {
     let a = text::inner::word(buf, at, word);
     let b = items::inner::tests(buf, a, set, tests);
@@ -45,7 +45,7 @@ fn set<'a>(buf: &mut [u8], at: usize, word: &'a [u8], set: u32, tests: usize) ->
 // The lowest column of class k, and the number of columns where it has none.
 fn lowest_in(of: &[u8; 61], columns: usize, k: usize) -> usize
     requires { columns ≤ 61 }
-    ensures { result ≡ first (inClass of.now k) columns }
+    ensures { result ≡ first (in_class of.now k) columns }
 {
     let mut i = 0;
     while i < columns {
@@ -58,7 +58,7 @@ fn lowest_in(of: &[u8; 61], columns: usize, k: usize) -> usize
 }
 
 fn class_head(buf: &mut [u8], at: usize, k: usize) -> usize
-    ensures { Writes at (classHead k) buf.old result buf.new }
+    ensures { Writes at (class_head k) buf.old result buf.new }
 {
     let a = text::inner::word(buf, at, b"class");
     let b = items::inner::spaced(buf, a, k);
@@ -67,7 +67,7 @@ fn class_head(buf: &mut [u8], at: usize, k: usize) -> usize
 
 fn class_tail(buf: &mut [u8], at: usize, table: Table, of: [u8; 61], k: usize) -> usize
     requires { table.faults ≤ 60 }
-    ensures { Writes at (classTail table of k) buf.old result buf.new }
+    ensures { Writes at (class_tail table of k) buf.old result buf.new }
 {
     let columns = table.faults + 1;
     let a = text::inner::word(buf, at, b" :");
@@ -77,8 +77,8 @@ fn class_tail(buf: &mut [u8], at: usize, table: Table, of: [u8; 61], k: usize) -
 
 // Class k: its signature under a set, and its members.
 fn class(buf: &mut [u8], at: usize, table: Table, of: [u8; 61], set: u32, k: usize) -> usize
-    requires { (table.tests ≤ 24) × (table.faults ≤ 60) × (first (inClass of k) (columns table) < columns table) }
-    ensures { Writes at (lineBy table of set k) buf.old result buf.new }
+    requires { (table.tests ≤ 24) × (table.faults ≤ 60) × (first (in_class of k) (columns table) < columns table) }
+    ensures { Writes at (line_by table of set k) buf.old result buf.new }
 {
     let tests = table.tests;
     let lowest = lowest_in(&of, table.faults + 1, k);
@@ -89,7 +89,7 @@ fn class(buf: &mut [u8], at: usize, table: Table, of: [u8; 61], set: u32, k: usi
 
 fn classes(buf: &mut [u8], at: usize, table: Table, of: [u8; 61], count: usize, set: u32) -> usize
     requires { (table.tests ≤ 24) × (table.faults ≤ 60) × NoneEmpty table of count }
-    ensures { Writes at (linesBy table of set count) buf.old result buf.new }
+    ensures { Writes at (lines_by table of set count) buf.old result buf.new }
 {
     let mut next = at;
     let mut i = 0;
@@ -110,7 +110,7 @@ fn sets(
     diagnose: u32,
 ) -> usize
     requires { tests ≤ 24 }
-    ensures { Writes at (setLines tests aside essential detect diagnose) buf.old result buf.new }
+    ensures { Writes at (set_lines tests aside essential detect diagnose) buf.old result buf.new }
 {
     let a = set(buf, at, b"aside", aside, tests);
     let b = set(buf, a, b"essential", essential, tests);
@@ -128,7 +128,7 @@ pub fn table(
     diagnose: u32,
 ) -> usize
     requires { WellFormed table }
-    ensures { Writes 0 (tableText table aside essential detect diagnose) buf.old result buf.new }
+    ensures { Writes 0 (table_text table aside essential detect diagnose) buf.old result buf.new }
 {
     let classed = classes::classify(table);
     let of = classed.of;

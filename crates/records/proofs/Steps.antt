@@ -16,7 +16,7 @@ use Rattle.checks.specs.Cursor.{on}
 use Rattle.checks.proofs.Passed.{AllPast, judgement, way}
 use Rattle.records.specs.declared.SoFar.{SoFar}
 use Rattle.records.specs.declared.Stepped.{Stepped}
-use Rattle.records.specs.Step.{rank_of, saidBy, refusedAt, acceptedAt, testRule, faultRule, responseRule, endRule, unknownRule, edgeRule, kindRule, ruleAt, stepAt}
+use Rattle.records.specs.Step.{rank_of, said_by, refused_at, accepted_at, testRule, faultRule, responseRule, endRule, unknownRule, edgeRule, kindRule, ruleAt, stepAt}
 use Rattle.records.specs.Counts.{CountsFit}
 
 -- which record a step gives: its kind byte, and the checks that it passed
@@ -27,8 +27,8 @@ pub data StepGives (book : List ℕ) (place : ℕ) (sofar : SoFar) : Stepped →
   ending : get_or book place 0 ≡ 0x45 → AllPast (endRule book place sofar).checks → StepGives book place sofar (endRule book place sofar).gives
 
 pub data Steps (book : List ℕ) (place : ℕ) (sofar : SoFar) : Stepped → Type 0 where
-  refuses : (why : Refusal) → Steps book place sofar (refusedAt place why)
-  accepts : length book ≤ place → eqb (rank_of sofar.stage) 3 ≡ true → Steps book place sofar (acceptedAt place sofar)
+  refuses : (why : Refusal) → Steps book place sofar (refused_at place why)
+  accepts : length book ≤ place → eqb (rank_of sofar.stage) 3 ≡ true → Steps book place sofar (accepted_at place sofar)
   gives : {s : Stepped} → place < length book → eqb (rank_of sofar.stage) 3 ≡ false → StepGives book place sofar s → Steps book place sofar s
 
 module _ (book : List ℕ) (place : ℕ) (sofar : SoFar) where
@@ -36,24 +36,24 @@ module _ (book : List ℕ) (place : ℕ) (sofar : SoFar) where
   S = Steps book place sofar
 
   abbrev J : Rule Stepped → Type 0
-  J r = Steps book place sofar (judged (refusedAt place) r)
+  J r = Steps book place sofar (judged (refused_at place) r)
 
   at_edge : J (edgeRule book place sofar)
   unfolding edgeRule
-  at_edge = judgement (refusedAt place) S (edgeRule book place sofar).checks (edgeRule book place sofar).gives refuses
+  at_edge = judgement (refused_at place) S (edgeRule book place sofar).checks (edgeRule book place sofar).gives refuses
       λ k. accepts (ltb-false place (length book) k.1.0) (not-false (eqb (rank_of sofar.stage) 3) k.0)
 
   of-kind : place < length book → eqb (rank_of sofar.stage) 3 ≡ false → J (kindRule book place sofar (get_or book place 0))
   unfolding kindRule unknownRule
   of-kind l u =
-      way J (eqb (get_or book place 0) 0x54) _ _ (λ h. judgement (refusedAt place) S _ _ refuses (λ k. gives l u (test (eqb-true _ _ h) k))) λ _.
-      way J (eqb (get_or book place 0) 0x46) _ _ (λ h. judgement (refusedAt place) S _ _ refuses (λ k. gives l u (fault (eqb-true _ _ h) k))) λ _.
-      way J (eqb (get_or book place 0) 0x52) _ _ (λ h. judgement (refusedAt place) S _ _ refuses (λ k. gives l u (response (eqb-true _ _ h) k))) λ _.
-      way J (eqb (get_or book place 0) 0x45) _ _ (λ h. judgement (refusedAt place) S _ _ refuses (λ k. gives l u (ending (eqb-true _ _ h) k))) λ _.
+      way J (eqb (get_or book place 0) 0x54) _ _ (λ h. judgement (refused_at place) S _ _ refuses (λ k. gives l u (test (eqb-true _ _ h) k))) λ _.
+      way J (eqb (get_or book place 0) 0x46) _ _ (λ h. judgement (refused_at place) S _ _ refuses (λ k. gives l u (fault (eqb-true _ _ h) k))) λ _.
+      way J (eqb (get_or book place 0) 0x52) _ _ (λ h. judgement (refused_at place) S _ _ refuses (λ k. gives l u (response (eqb-true _ _ h) k))) λ _.
+      way J (eqb (get_or book place 0) 0x45) _ _ (λ h. judgement (refused_at place) S _ _ refuses (λ k. gives l u (ending (eqb-true _ _ h) k))) λ _.
       unknown
     where
       unknown : J (unknownRule book place sofar)
-      unknown = judgement (refusedAt place) S _ _ refuses (λ k. refuses UnknownKind)
+      unknown = judgement (refused_at place) S _ _ refuses (λ k. refuses UnknownKind)
 
   pub steps : Steps book place sofar (stepAt book place sofar)
   unfolding stepAt ruleAt
@@ -77,7 +77,7 @@ gives_goes c (fault h k) = record { further = omega arith; inside = omega (arith
 gives_goes c (response h k) = record { further = omega arith; inside = omega (arith, ltb-false); counts = record { tests = c.tests; faults = c.faults } }
 gives_goes c (ending h k) = record { further = omega arith; inside = omega (arith, ltb-false); counts = record { tests = c.tests; faults = c.faults } }
 
-pub goes : {book : List ℕ} {place : ℕ} {sofar : SoFar} {s : Stepped} → CountsFit sofar → Steps book place sofar s → saidBy s.outcome ≡ on → Goes book place s
+pub goes : {book : List ℕ} {place : ℕ} {sofar : SoFar} {s : Stepped} → CountsFit sofar → Steps book place sofar s → said_by s.outcome ≡ on → Goes book place s
 goes c (refuses why) e = let z : ◌≡◌ {A = ℕ} 0 1 = cc in absurd (omega arith)
 goes c (accepts h u) e = let z : ◌≡◌ {A = ℕ} 0 1 = cc in absurd (omega arith)
 goes c (gives h u g) e = gives_goes c g

@@ -4,14 +4,14 @@
 use Rattle.std.specs.Prelude.{Bool, false, not, List, [], ◌∷◌, ℕ, ◌+◌, ltb, leb, eqb, length, get_or}
 use Rattle.folds.specs.Fold.{whether, both, either}
 use Rattle.table.specs.Answers.{number_of}
-use Rattle.table.specs.Table.{emptyTable, outputAt}
-use Rattle.table.specs.Form.{newLabel}
+use Rattle.table.specs.Table.{empty_table, output_at}
+use Rattle.table.specs.Form.{new_label}
 use Rattle.table.specs.declared.Refusal.{Refusal}
 use Rattle.table.specs.declared.Refusal.TheVariants.{UnknownKind, BodyCut, OutOfPlace, TooMany, StuckValue, SameLabel, NotInBook, NotAfter, RepeatsCorrect, WrongCounts}
 use Rattle.table.specs.declared.Table.{Table}
-use Rattle.checks.specs.Check.{check, Rule, rule, judged, edgeChecks, unknownChecks}
+use Rattle.checks.specs.Check.{check, Rule, rule, judged, edge_checks, unknown_checks}
 use Rattle.checks.specs.Cursor.{Said, on, done}
-use Rattle.grow.specs.Grow.{withTest, withFault, withResponse}
+use Rattle.grow.specs.Grow.{with_test, with_fault, with_response}
 use Rattle.records.specs.declared.Outcome.{Outcome}
 use Rattle.records.specs.declared.Outcome.TheVariants.{Given, Accepted, Refused}
 use Rattle.records.specs.declared.Record.{Record}
@@ -22,32 +22,32 @@ use Rattle.records.specs.declared.Stage.TheVariants.{Tests, Faults, Responses, E
 use Rattle.records.specs.declared.Stepped.{Stepped}
 
 -- "A record is one byte of kind, then a body whose length the kind fixes."
-abbrev pub recordBytes : Record → List ℕ
-recordBytes (Test output) = 0x54 ∷ output ∷ []
-recordBytes (Fault line stuck) = 0x46 ∷ line ∷ stuck ∷ []
-recordBytes (Response test fault output) = 0x52 ∷ test ∷ fault ∷ output ∷ []
-recordBytes (End tests faults) = 0x45 ∷ tests ∷ faults ∷ []
+abbrev pub record_bytes : Record → List ℕ
+record_bytes (Test output) = 0x54 ∷ output ∷ []
+record_bytes (Fault line stuck) = 0x46 ∷ line ∷ stuck ∷ []
+record_bytes (Response test fault output) = 0x52 ∷ test ∷ fault ∷ output ∷ []
+record_bytes (End tests faults) = 0x45 ∷ tests ∷ faults ∷ []
 
 -- what has been read at a book's start
 abbrev pub start : SoFar
-start = record { table = emptyTable; stage = Tests }
+start = record { table = empty_table; stage = Tests }
 
 -- "It returns the number, the place of that record's first byte, and the empty table."
-abbrev pub refusedAt : ℕ → Refusal → Stepped
-refusedAt place why = record { outcome = Refused why; place = place; sofar = start }
+abbrev pub refused_at : ℕ → Refusal → Stepped
+refused_at place why = record { outcome = Refused why; place = place; sofar = start }
 
-abbrev pub acceptedAt : ℕ → SoFar → Stepped
-acceptedAt place sofar = record { outcome = Accepted; place = place; sofar = sofar }
+abbrev pub accepted_at : ℕ → SoFar → Stepped
+accepted_at place sofar = record { outcome = Accepted; place = place; sofar = sofar }
 
 -- a record, the next place, and the table and the stage then
-abbrev pub givenAt : Record → ℕ → Table → Stage → Stepped
-givenAt r next tb stage = record { outcome = Given r; place = next; sofar = record { table = tb; stage = stage } }
+abbrev pub given_at : Record → ℕ → Table → Stage → Stepped
+given_at r next tb stage = record { outcome = Given r; place = next; sofar = record { table = tb; stage = stage } }
 
 -- reading goes on after a record, and is done where a step accepts or refuses
-abbrev pub saidBy : Outcome → Said
-saidBy (Given r) = on
-saidBy Accepted = done 0
-saidBy (Refused why) = done (number_of why)
+abbrev pub said_by : Outcome → Said
+said_by (Given r) = on
+said_by Accepted = done 0
+said_by (Refused why) = done (number_of why)
 
 -- "All tests come first, then faults, then responses, then one end"
 abbrev pub rank_of : Stage → ℕ
@@ -57,11 +57,11 @@ rank_of (Responses fault test) = 2
 rank_of Ended = 3
 
 -- "Responses rise strictly by fault, then by test.": this one does not
-abbrev pub notAfter : Stage → ℕ → ℕ → Bool
-notAfter Tests f t = false
-notAfter Faults f t = false
-notAfter (Responses fault test) f t = either (ltb f fault) (both (eqb f fault) (leb t test))
-notAfter Ended f t = false
+abbrev pub not_after : Stage → ℕ → ℕ → Bool
+not_after Tests f t = false
+not_after Faults f t = false
+not_after (Responses fault test) f t = either (ltb f fault) (both (eqb f fault) (leb t test))
+not_after Ended f t = false
 
 module _ (book : List ℕ) (place : ℕ) (sofar : SoFar) where
   abbrev tb : Table
@@ -87,7 +87,7 @@ module _ (book : List ℕ) (place : ℕ) (sofar : SoFar) where
       -- "a 25th test"
       ∷ check TooMany (leb 24 tb.tests)
       ∷ [])
-      (givenAt (Test (byte 1)) (place + 2) (withTest tb (byte 1)) Tests)
+      (given_at (Test (byte 1)) (place + 2) (with_test tb (byte 1)) Tests)
 
   -- "46 hex | 2 bytes | next fault: line, stuck value"
   unfoldable pub faultRule : Rule Stepped
@@ -100,9 +100,9 @@ module _ (book : List ℕ) (place : ℕ) (sofar : SoFar) where
       -- "stuck value above 1"
       ∷ check StuckValue (ltb 1 (byte 2))
       -- "same line and value as an earlier fault"
-      ∷ check SameLabel (not (newLabel tb.lines tb.stuck tb.faults (byte 1) (byte 2)))
+      ∷ check SameLabel (not (new_label tb.lines tb.stuck tb.faults (byte 1) (byte 2)))
       ∷ [])
-      (givenAt (Fault (byte 1) (byte 2)) (place + 3) (withFault tb (byte 1) (byte 2)) Faults)
+      (given_at (Fault (byte 1) (byte 2)) (place + 3) (with_fault tb (byte 1) (byte 2)) Faults)
 
   -- "52 hex | 3 bytes | response: test, fault, output"
   unfoldable pub responseRule : Rule Stepped
@@ -112,11 +112,11 @@ module _ (book : List ℕ) (place : ℕ) (sofar : SoFar) where
       ∷ check NotInBook (leb tb.tests (byte 1))
       ∷ check NotInBook (leb tb.faults (byte 2))
       -- "a response is not after the one before it"
-      ∷ check NotAfter (notAfter sofar.stage (byte 2) (byte 1))
+      ∷ check NotAfter (not_after sofar.stage (byte 2) (byte 1))
       -- "a response repeats the correct output"
-      ∷ check RepeatsCorrect (eqb (outputAt tb (byte 1) 0) (byte 3))
+      ∷ check RepeatsCorrect (eqb (output_at tb (byte 1) 0) (byte 3))
       ∷ [])
-      (givenAt (Response (byte 1) (byte 2) (byte 3)) (place + 4) (withResponse tb (byte 1) (byte 2) (byte 3)) (Responses (byte 2) (byte 1)))
+      (given_at (Response (byte 1) (byte 2) (byte 3)) (place + 4) (with_response tb (byte 1) (byte 2) (byte 3)) (Responses (byte 2) (byte 1)))
 
   -- "45 hex | 2 bytes | end: number of tests, number of faults"
   unfoldable pub endRule : Rule Stepped
@@ -126,15 +126,15 @@ module _ (book : List ℕ) (place : ℕ) (sofar : SoFar) where
       ∷ check WrongCounts (not (eqb (byte 1) tb.tests))
       ∷ check WrongCounts (not (eqb (byte 2) tb.faults))
       ∷ [])
-      (givenAt (End (byte 1) (byte 2)) (place + 3) tb Ended)
+      (given_at (End (byte 1) (byte 2)) (place + 3) tb Ended)
 
   -- "every other value of the kind byte"
   unfoldable pub unknownRule : Rule Stepped
-  unknownRule = rule unknownChecks (refusedAt place UnknownKind)
+  unknownRule = rule unknown_checks (refused_at place UnknownKind)
 
   -- at the book's end, or past the end record
   unfoldable pub edgeRule : Rule Stepped
-  edgeRule = rule (edgeChecks (eqb rank 3) place (length book)) (acceptedAt place sofar)
+  edgeRule = rule (edge_checks (eqb rank 3) place (length book)) (accepted_at place sofar)
 
   -- by the kind byte
   unfoldable pub kindRule : ℕ → Rule Stepped
@@ -150,4 +150,4 @@ module _ (book : List ℕ) (place : ℕ) (sofar : SoFar) where
 
   -- the step of the cursor
   unfoldable pub stepAt : Stepped
-  stepAt = judged (refusedAt place) ruleAt
+  stepAt = judged (refused_at place) ruleAt

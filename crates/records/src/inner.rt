@@ -1,6 +1,6 @@
 // One step of the cursor, and a refusal of it.
 ghost use Rattle.std.specs.Prelude.{◌≡◌};
-ghost use Rattle.records.specs.Step.{refusedAt, start, stepAt};
+ghost use Rattle.records.specs.Step.{refused_at, start, stepAt};
 ghost use Rattle.records.specs.Counts.{CountsFit};
 
 use crate::{Outcome, SoFar, Stage, Stepped};
@@ -18,7 +18,7 @@ pub fn begin() -> SoFar
 }
 
 pub fn refuse(why: Refusal, place: usize) -> Stepped
-    ensures { result ≡ refusedAt place why }
+    ensures { result ≡ refused_at place why }
 {
     let sofar = begin();
     Stepped {

@@ -1,14 +1,14 @@
 // What each kind of record gives, or why it is refused.
 ghost use Rattle.std.specs.Prelude.{◌≡◌, ◌<◌, length};
 ghost use Rattle.checks.specs.Check.{judged};
-ghost use Rattle.records.specs.Step.{rank_of, notAfter, refusedAt, givenAt, edgeRule, testRule, faultRule, responseRule, endRule};
+ghost use Rattle.records.specs.Step.{rank_of, not_after, refused_at, given_at, edgeRule, testRule, faultRule, responseRule, endRule};
 ghost use Rattle.records.specs.Counts.{CountsFit};
 
 use crate::{Outcome, Record, SoFar, Stage, Stepped};
 use table::{Refusal, Table};
 
 fn give(given: Record, next: usize, table: Table, stage: Stage) -> Stepped
-    ensures { result ≡ givenAt given next table stage }
+    ensures { result ≡ given_at given next table stage }
 {
     Stepped {
         outcome: Outcome::Given(given),
@@ -31,7 +31,7 @@ pub fn rank(stage: Stage) -> usize
 
 // The book stops at a record's edge, or its end record has been read.
 pub fn at_edge(book: &[u8], place: usize, sofar: SoFar) -> Stepped
-    ensures { result ≡ judged (refusedAt place) (edgeRule book.now place sofar) }
+    ensures { result ≡ judged (refused_at place) (edgeRule book.now place sofar) }
 {
     let stage = sofar.stage;
     if rank(stage) != 3 {
@@ -49,7 +49,7 @@ pub fn at_edge(book: &[u8], place: usize, sofar: SoFar) -> Stepped
 
 pub fn test_record(book: &[u8], place: usize, sofar: SoFar) -> Stepped
     requires { (place < length book.now) × CountsFit sofar }
-    ensures { result ≡ judged (refusedAt place) (testRule book.now place sofar) }
+    ensures { result ≡ judged (refused_at place) (testRule book.now place sofar) }
 {
     if book.len() < place + 2 {
         return crate::inner::refuse(Refusal::BodyCut, place);
@@ -69,7 +69,7 @@ pub fn test_record(book: &[u8], place: usize, sofar: SoFar) -> Stepped
 
 pub fn fault_record(book: &[u8], place: usize, sofar: SoFar) -> Stepped
     requires { (place < length book.now) × CountsFit sofar }
-    ensures { result ≡ judged (refusedAt place) (faultRule book.now place sofar) }
+    ensures { result ≡ judged (refused_at place) (faultRule book.now place sofar) }
 {
     if book.len() < place + 3 {
         return crate::inner::refuse(Refusal::BodyCut, place);
@@ -96,7 +96,7 @@ pub fn fault_record(book: &[u8], place: usize, sofar: SoFar) -> Stepped
 
 // Whether a response of a fault to a test is not after the one before it.
 fn not_after(stage: Stage, fault: usize, test: usize) -> bool
-    ensures { result ≡ notAfter stage fault test }
+    ensures { result ≡ not_after stage fault test }
 {
     match stage {
         Stage::Responses(f, t) => {
@@ -116,7 +116,7 @@ fn not_after(stage: Stage, fault: usize, test: usize) -> bool
 
 pub fn response_record(book: &[u8], place: usize, sofar: SoFar) -> Stepped
     requires { (place < length book.now) × CountsFit sofar }
-    ensures { result ≡ judged (refusedAt place) (responseRule book.now place sofar) }
+    ensures { result ≡ judged (refused_at place) (responseRule book.now place sofar) }
 {
     if book.len() < place + 4 {
         return crate::inner::refuse(Refusal::BodyCut, place);
@@ -151,7 +151,7 @@ pub fn response_record(book: &[u8], place: usize, sofar: SoFar) -> Stepped
 
 pub fn end_record(book: &[u8], place: usize, sofar: SoFar) -> Stepped
     requires { (place < length book.now) × CountsFit sofar }
-    ensures { result ≡ judged (refusedAt place) (endRule book.now place sofar) }
+    ensures { result ≡ judged (refused_at place) (endRule book.now place sofar) }
 {
     if book.len() < place + 3 {
         return crate::inner::refuse(Refusal::BodyCut, place);

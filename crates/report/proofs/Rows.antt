@@ -6,11 +6,11 @@ use Rattle.sets.specs.Sets.{size}
 use Rattle.table.specs.Table.{columns}
 use Rattle.table.specs.declared.Table.{Table}
 use Rattle.terms.specs.Terms.{class_of, signature}
-use Rattle.dictionary.specs.Dictionary.{dictionaryOf}
-use Rattle.dictionary.proofs.Meaning.{dictionary-row}
-use Rattle.lines.specs.Text.{lowestIn}
+use Rattle.dictionary.specs.Dictionary.{dictionary_of}
+use Rattle.dictionary.proofs.Meaning.{dictionary_row}
+use Rattle.lines.specs.Text.{lowest_in}
 use Rattle.lines.proofs.Said.{line-signature}
 
 pub line_row : (tb : Table) (s c : ℕ) → c < columns tb
-    → signature tb s (lowestIn tb (class_of tb c)) ≡ take (size s tb.tests) (drop (class_of tb c * size s tb.tests) (dictionaryOf tb s))
-line_row tb s c l = line-signature tb s c l ∙ sym (dictionary-row tb s c l)
+    → signature tb s (lowest_in tb (class_of tb c)) ≡ take (size s tb.tests) (drop (class_of tb c * size s tb.tests) (dictionary_of tb s))
+line_row tb s c l = line-signature tb s c l ∙ sym (dictionary_row tb s c l)

@@ -6,5 +6,5 @@ use Rattle.text.specs.Writes.{Writes}
 -- a text that has P, written from the front of a page on; r is the place behind it
 pub record Paged (P : List ℕ → Type 0) (entry : List ℕ) (r : ℕ) (exit : List ℕ) : Type 0 where
   pub text : List ℕ
-  pub is-text : P text
+  pub is_text : P text
   pub writes : Writes 0 text entry r exit

@@ -2,14 +2,14 @@
 ghost use Rattle.std.specs.Prelude.{◌≡◌};
 ghost use Rattle.report.specs.Report.{IsTableText, IsText, ReportIs};
 ghost use Rattle.report.specs.Page.{Paged};
-ghost use Rattle.table.specs.Answers.{chosenSet};
+ghost use Rattle.table.specs.Answers.{chosen_set};
 ghost use Rattle.table.specs.WellFormed.{WellFormed};
 
 use table::{Chosen, Goal, Refusal, Table, Verdict, Written};
 
 // The tests of an answer, and none of a refusal.
 fn set_of(answer: Chosen) -> u32
-    ensures { result ≡ chosenSet answer }
+    ensures { result ≡ chosen_set answer }
 {
     match answer {
         Chosen::Tests(set) => set,

@@ -1,32 +1,32 @@
 -- Document 01's small books, and one of ours, each byte by byte. The sentences are document 01's.
 -- Assumes nothing.
 use Rattle.std.specs.Prelude.{List, [], ◌∷◌, ℕ}
-use Rattle.book.specs.Reading.{readBook}
+use Rattle.book.specs.Reading.{read_book}
 use Rattle.table.specs.declared.Table.{Table}
 
 -- the table that a book gives
-abbrev pub tableIn : List ℕ → Table
-tableIn book = (readBook book).table
+abbrev pub table_in : List ℕ → Table
+table_in book = (read_book book).table
 
 -- "`45 00 00`"
-abbrev pub endAlone : List ℕ
-endAlone = 0x45 ∷ 0x00 ∷ 0x00 ∷ []
+abbrev pub end_alone : List ℕ
+end_alone = 0x45 ∷ 0x00 ∷ 0x00 ∷ []
 
 -- "`54 07 45 01 00`"
-abbrev pub testAlone : List ℕ
-testAlone = 0x54 ∷ 0x07 ∷ 0x45 ∷ 0x01 ∷ 0x00 ∷ []
+abbrev pub test_alone : List ℕ
+test_alone = 0x54 ∷ 0x07 ∷ 0x45 ∷ 0x01 ∷ 0x00 ∷ []
 
 -- "`54 00 46 01 00 52 00 00 01 45 01 01`"
-abbrev pub seenFault : List ℕ
-seenFault = 0x54 ∷ 0x00 ∷ 0x46 ∷ 0x01 ∷ 0x00 ∷ 0x52 ∷ 0x00 ∷ 0x00 ∷ 0x01 ∷ 0x45 ∷ 0x01 ∷ 0x01 ∷ []
+abbrev pub seen_fault : List ℕ
+seen_fault = 0x54 ∷ 0x00 ∷ 0x46 ∷ 0x01 ∷ 0x00 ∷ 0x52 ∷ 0x00 ∷ 0x00 ∷ 0x01 ∷ 0x45 ∷ 0x01 ∷ 0x01 ∷ []
 
 -- "The same without its response"
-abbrev pub unseenFault : List ℕ
-unseenFault = 0x54 ∷ 0x00 ∷ 0x46 ∷ 0x01 ∷ 0x00 ∷ 0x45 ∷ 0x01 ∷ 0x01 ∷ []
+abbrev pub unseen_fault : List ℕ
+unseen_fault = 0x54 ∷ 0x00 ∷ 0x46 ∷ 0x01 ∷ 0x00 ∷ 0x45 ∷ 0x01 ∷ 0x01 ∷ []
 
 -- "Two tests, correct 0 0; fault a gives 1 1, fault b gives 1 2"
-abbrev pub twoFaults : List ℕ
-twoFaults =
+abbrev pub two_faults : List ℕ
+two_faults =
     0x54 ∷ 0x00 ∷ 0x54 ∷ 0x00
     ∷ 0x46 ∷ 0x01 ∷ 0x00 ∷ 0x46 ∷ 0x02 ∷ 0x00
     ∷ 0x52 ∷ 0x00 ∷ 0x00 ∷ 0x01 ∷ 0x52 ∷ 0x01 ∷ 0x00 ∷ 0x01
@@ -34,16 +34,16 @@ twoFaults =
     ∷ 0x45 ∷ 0x02 ∷ 0x02 ∷ []
 
 -- "Two equal tests and one fault they see"
-abbrev pub equalTests : List ℕ
-equalTests =
+abbrev pub equal_tests : List ℕ
+equal_tests =
     0x54 ∷ 0x00 ∷ 0x54 ∷ 0x00
     ∷ 0x46 ∷ 0x01 ∷ 0x00
     ∷ 0x52 ∷ 0x00 ∷ 0x00 ∷ 0x01 ∷ 0x52 ∷ 0x01 ∷ 0x00 ∷ 0x01
     ∷ 0x45 ∷ 0x02 ∷ 0x01 ∷ []
 
 -- "Six faults; test 0 sees the 1st, 2nd, 4th, 5th, test 1 the first three, test 2 the last three"
-abbrev pub sixFaults : List ℕ
-sixFaults =
+abbrev pub six_faults : List ℕ
+six_faults =
     0x54 ∷ 0x00 ∷ 0x54 ∷ 0x00 ∷ 0x54 ∷ 0x00
     ∷ 0x46 ∷ 0x01 ∷ 0x00 ∷ 0x46 ∷ 0x02 ∷ 0x00 ∷ 0x46 ∷ 0x03 ∷ 0x00
     ∷ 0x46 ∷ 0x04 ∷ 0x00 ∷ 0x46 ∷ 0x05 ∷ 0x00 ∷ 0x46 ∷ 0x06 ∷ 0x00
@@ -56,8 +56,8 @@ sixFaults =
     ∷ 0x45 ∷ 0x03 ∷ 0x06 ∷ []
 
 -- ours: test 1 sees what test 0 sees and one fault more, which test 2 sees too
-abbrev pub oneMore : List ℕ
-oneMore =
+abbrev pub one_more_of : List ℕ
+one_more_of =
     0x54 ∷ 0x00 ∷ 0x54 ∷ 0x00 ∷ 0x54 ∷ 0x00
     ∷ 0x46 ∷ 0x01 ∷ 0x00 ∷ 0x46 ∷ 0x02 ∷ 0x00 ∷ 0x46 ∷ 0x03 ∷ 0x00
     ∷ 0x52 ∷ 0x00 ∷ 0x00 ∷ 0x01 ∷ 0x52 ∷ 0x01 ∷ 0x00 ∷ 0x01
@@ -66,17 +66,17 @@ oneMore =
     ∷ 0x45 ∷ 0x03 ∷ 0x03 ∷ []
 
 -- "Empty input"
-abbrev pub noBytes : List ℕ
-noBytes = []
+abbrev pub no_bytes : List ℕ
+no_bytes = []
 
 -- "`45 00`"
-abbrev pub endCut : List ℕ
-endCut = 0x45 ∷ 0x00 ∷ []
+abbrev pub end_cut : List ℕ
+end_cut = 0x45 ∷ 0x00 ∷ []
 
 -- "`45 00 00 45`"
-abbrev pub byteAfterEnd : List ℕ
-byteAfterEnd = 0x45 ∷ 0x00 ∷ 0x00 ∷ 0x45 ∷ []
+abbrev pub byte_after_end : List ℕ
+byte_after_end = 0x45 ∷ 0x00 ∷ 0x00 ∷ 0x45 ∷ []
 
 -- "`46 01 00 54 00`"
-abbrev pub testAfterFault : List ℕ
-testAfterFault = 0x46 ∷ 0x01 ∷ 0x00 ∷ 0x54 ∷ 0x00 ∷ []
+abbrev pub test_after_fault : List ℕ
+test_after_fault = 0x46 ∷ 0x01 ∷ 0x00 ∷ 0x54 ∷ 0x00 ∷ []

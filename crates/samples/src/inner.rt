@@ -1,33 +1,33 @@
 // Document 01's starred books, as the definitions have them.
 ghost use Rattle.std.specs.Prelude.{◌≡◌};
-ghost use Rattle.samples.specs.Books.{endAlone, testAlone, seenFault, unseenFault, twoFaults, equalTests, sixFaults, noBytes, endCut, byteAfterEnd, testAfterFault};
+ghost use Rattle.samples.specs.Books.{end_alone, test_alone, seen_fault, unseen_fault, two_faults, equal_tests, six_faults, no_bytes, end_cut, byte_after_end, test_after_fault};
 
 pub fn end_alone() -> [u8; 3]
-    ensures { result ≡ endAlone }
+    ensures { result ≡ end_alone }
 {
     *b"\x45\x00\x00"
 }
 
 pub fn test_alone() -> [u8; 5]
-    ensures { result ≡ testAlone }
+    ensures { result ≡ test_alone }
 {
     *b"\x54\x07\x45\x01\x00"
 }
 
 pub fn seen_fault() -> [u8; 12]
-    ensures { result ≡ seenFault }
+    ensures { result ≡ seen_fault }
 {
     *b"\x54\x00\x46\x01\x00\x52\x00\x00\x01\x45\x01\x01"
 }
 
 pub fn unseen_fault() -> [u8; 8]
-    ensures { result ≡ unseenFault }
+    ensures { result ≡ unseen_fault }
 {
     *b"\x54\x00\x46\x01\x00\x45\x01\x01"
 }
 
 pub fn two_faults() -> [u8; 29]
-    ensures { result ≡ twoFaults }
+    ensures { result ≡ two_faults }
 {
     *b"\x54\x00\x54\x00\
     \x46\x01\x00\x46\x02\x00\
@@ -37,7 +37,7 @@ pub fn two_faults() -> [u8; 29]
 }
 
 pub fn equal_tests() -> [u8; 18]
-    ensures { result ≡ equalTests }
+    ensures { result ≡ equal_tests }
 {
     *b"\x54\x00\x54\x00\
     \x46\x01\x00\
@@ -46,7 +46,7 @@ pub fn equal_tests() -> [u8; 18]
 }
 
 pub fn six_faults() -> [u8; 67]
-    ensures { result ≡ sixFaults }
+    ensures { result ≡ six_faults }
 {
     *b"\x54\x00\x54\x00\x54\x00\
     \x46\x01\x00\x46\x02\x00\x46\x03\x00\
@@ -61,25 +61,25 @@ pub fn six_faults() -> [u8; 67]
 }
 
 pub fn no_bytes() -> [u8; 0]
-    ensures { result ≡ noBytes }
+    ensures { result ≡ no_bytes }
 {
     *b""
 }
 
 pub fn end_cut() -> [u8; 2]
-    ensures { result ≡ endCut }
+    ensures { result ≡ end_cut }
 {
     *b"\x45\x00"
 }
 
 pub fn byte_after_end() -> [u8; 4]
-    ensures { result ≡ byteAfterEnd }
+    ensures { result ≡ byte_after_end }
 {
     *b"\x45\x00\x00\x45"
 }
 
 pub fn test_after_fault() -> [u8; 5]
-    ensures { result ≡ testAfterFault }
+    ensures { result ≡ test_after_fault }
 {
     *b"\x46\x01\x00\x54\x00"
 }

@@ -1,4 +1,4 @@
--- Laws of `setOf`, the set of the numbers that have p, and the facts of the loops that make it. Assumes nothing.
+-- Laws of `set_of`, the set of the numbers that have p, and the facts of the loops that make it. Assumes nothing.
 use mathlib.Core.Bool.{Bool, true, false, not}
 use mathlib.Core.Logic.{⊎_elim}
 use mathlib.Core.Path.{◌≡◌, refl, sym, ap, ◌∙◌}
@@ -9,31 +9,31 @@ use native.Mathlib.Omega.{arith}
 use lib.Dec.{eqb}
 use lib.Pow.{pow-lt, pow_mono}
 use Rattle.folds.specs.Fold.{whether}
-use Rattle.folds.proofs.Below.{below-cases}
+use Rattle.folds.proofs.Below.{below_cases}
 use Rattle.sets.specs.Sets.{bit, has}
-use Rattle.sets.specs.Collect.{setWith, setOf}
-use Rattle.sets.proofs.Bits.{bit_high, bit_below, bits-equal, has_no, has_same, top_lt, top_bit, top_below}
+use Rattle.sets.specs.Collect.{set_with, set_of}
+use Rattle.sets.proofs.Bits.{bit_high, bit_below, bits_equal, has_no, has_same, top_lt, top_bit, top_below}
 
 -- ---- one test more at the top
 
-pub with_in : (s t : ℕ) → setWith s t true ≡ s + 2 ^ t
-unfolding setWith
+pub with_in : (s t : ℕ) → set_with s t true ≡ s + 2 ^ t
+unfolding set_with
 with_in s t = refl
 
-pub with_out : (s t : ℕ) → setWith s t false ≡ s
-unfolding setWith
+pub with_out : (s t : ℕ) → set_with s t false ≡ s
+unfolding set_with
 with_out s t = add-zero s
 
 module _ (s t : ℕ) (h : s < 2 ^ t) where
-  with-lt : (b : Bool) → setWith s t b < 2 ^ suc t
+  with-lt : (b : Bool) → set_with s t b < 2 ^ suc t
   with-lt true = rw with_in (top_lt s t h)
   with-lt false = rw with_out (omega (arith, pow-suc 2 t))
 
-  with_at : (b : Bool) → bit (setWith s t b) t ≡ whether b 1 0
+  with_at : (b : Bool) → bit (set_with s t b) t ≡ whether b 1 0
   with_at true = rw with_in (top_bit s t h)
   with_at false = rw with_out (bit_high s t t h (omega arith))
 
-  with-below : (b : Bool) (i : ℕ) → i < t → bit (setWith s t b) i ≡ bit s i
+  with-below : (b : Bool) (i : ℕ) → i < t → bit (set_with s t b) i ≡ bit s i
   with-below true i l = rw with_in (top_below s t i h l)
   with-below false i l = rw with_out
 
@@ -42,27 +42,27 @@ pub one_shl : (k t : ℕ) → t < k → 1 * 2 ^ t % 2 ^ k ≡ 2 ^ t
 one_shl k t h = ap (λ (x : ℕ). x % 2 ^ k) (one-mul (2 ^ t)) ∙ mod-eq_of_lt (pow-lt h)
 
 -- the set with it added has room
-pub top-fits : (k s t : ℕ) → t < k → s < 2 ^ t → s + 2 ^ t < 2 ^ k
-top-fits k s t h l = lt_of_lt_of_le (top_lt s t l) (pow_mono h)
+pub top_fits : (k s t : ℕ) → t < k → s < 2 ^ t → s + 2 ^ t < 2 ^ k
+top_fits k s t h l = lt_of_lt_of_le (top_lt s t l) (pow_mono h)
 
 -- ---- the set of the numbers that have p
 
 module _ (p : ℕ → Bool) where
-  pub set-lt : (n : ℕ) → setOf p n < 2 ^ n
-  unfolding setOf
+  pub set-lt : (n : ℕ) → set_of p n < 2 ^ n
+  unfolding set_of
   set-lt zero = omega arith
-  set-lt (suc n) = with-lt (setOf p n) n (set-lt n) (p n)
+  set-lt (suc n) = with-lt (set_of p n) n (set-lt n) (p n)
 
-  set-bit : (n t : ℕ) → t < n → bit (setOf p n) t ≡ whether (p t) 1 0
-  unfolding setOf
+  set-bit : (n t : ℕ) → t < n → bit (set_of p n) t ≡ whether (p t) 1 0
+  unfolding set_of
   set-bit zero t h = absurd (omega arith)
   set-bit (suc n) t h =
-      ⊎_elim (λ l. with-below (setOf p n) n (set-lt n) (p n) t l ∙ set-bit n t l)
-      (λ e. rw e (with_at (setOf p n) n (set-lt n) (p n)))
-      (below-cases t n h)
+      ⊎_elim (λ l. with-below (set_of p n) n (set-lt n) (p n) t l ∙ set-bit n t l)
+      (λ e. rw e (with_at (set_of p n) n (set-lt n) (p n)))
+      (below_cases t n h)
 
   -- of the numbers below n it holds those that have p, and no other
-  pub set_tells : (n t : ℕ) → t < n → has (setOf p n) t ≡ p t
+  pub set_tells : (n t : ℕ) → t < n → has (set_of p n) t ≡ p t
   unfolding has
   set_tells n t h = rw (set-bit n t h) (go (p t))
     where
@@ -71,64 +71,64 @@ module _ (p : ℕ → Bool) where
       go false = refl
 
   -- and is the only set that does
-  pub set_is : (n s : ℕ) → s < 2 ^ n → ((t : ℕ) → t < n → has s t ≡ p t) → s ≡ setOf p n
-  set_is n s h e = bits-equal n s (setOf p n) h (set-lt n) (λ t l. has_same s (setOf p n) t (e t l ∙ sym (set_tells n t l)))
+  pub set_is : (n s : ℕ) → s < 2 ^ n → ((t : ℕ) → t < n → has s t ≡ p t) → s ≡ set_of p n
+  set_is n s h e = bits_equal n s (set_of p n) h (set-lt n) (λ t l. has_same s (set_of p n) t (e t l ∙ sym (set_tells n t l)))
 
-  pub set-high : (n t : ℕ) → n ≤ t → has (setOf p n) t ≡ false
-  set-high n t h = has_no (setOf p n) t (bit_high (setOf p n) n t (set-lt n) h)
+  pub set-high : (n t : ℕ) → n ≤ t → has (set_of p n) t ≡ false
+  set-high n t h = has_no (set_of p n) t (bit_high (set_of p n) n t (set-lt n) h)
 
   -- the same, bit by bit
-  pub set_below : (n t : ℕ) → bit (setOf p n) t ≡ 1 → t < n
-  set_below n t e = bit_below n (setOf p n) t (set-lt n) e
+  pub set_below : (n t : ℕ) → bit (set_of p n) t ≡ 1 → t < n
+  set_below n t e = bit_below n (set_of p n) t (set-lt n) e
 
-  pub set-has : (n t : ℕ) → bit (setOf p n) t ≡ 1 → p t ≡ true
+  pub set-has : (n t : ℕ) → bit (set_of p n) t ≡ 1 → p t ≡ true
   set-has n t e = go (p t) (sym (set-bit n t (set_below n t e)) ∙ e)
     where
       go : (b : Bool) → whether {A = ℕ} b 1 0 ≡ 1 → b ≡ true
       go true q = refl
       go false q = absurd (omega arith)
 
-  pub set-in : (n t : ℕ) → t < n → p t ≡ true → bit (setOf p n) t ≡ 1
+  pub set-in : (n t : ℕ) → t < n → p t ≡ true → bit (set_of p n) t ≡ 1
   set-in n t l e = set-bit n t l ∙ rw e
 
   -- with the set of those that lack p it makes up all of them
-  pub set-others : (n : ℕ) → setOf (λ i. not (p i)) n + setOf p n + 1 ≡ 2 ^ n
-  unfolding setOf setWith
+  pub set-others : (n : ℕ) → set_of (λ i. not (p i)) n + set_of p n + 1 ≡ 2 ^ n
+  unfolding set_of set_with
   set-others zero = refl
   set-others (suc n) = go (p n) (set-others n)
     where
-      go : (b : Bool) → setOf (λ i. not (p i)) n + setOf p n + 1 ≡ 2 ^ n
-          → (setOf (λ i. not (p i)) n + whether (not b) (2 ^ n) 0) + (setOf p n + whether b (2 ^ n) 0) + 1 ≡ 2 ^ suc n
+      go : (b : Bool) → set_of (λ i. not (p i)) n + set_of p n + 1 ≡ 2 ^ n
+          → (set_of (λ i. not (p i)) n + whether (not b) (2 ^ n) 0) + (set_of p n + whether b (2 ^ n) 0) + 1 ≡ 2 ^ suc n
       go true e = omega (arith, pow-suc 2 n)
       go false e = omega (arith, pow-suc 2 n)
 
-  -- ---- a loop `while i < n { set = with_test(set, i, test(i)); i += 1; } set`, with the invariant set ≡ setOf p i
+  -- ---- a loop `while i < n { set = with_test(set, i, test(i)); i += 1; } set`, with the invariant set ≡ set_of p i
 
-  pub set-start : 0 ≡ setOf p 0
-  unfolding setOf
+  pub set-start : 0 ≡ set_of p 0
+  unfolding set_of
   set-start = refl
 
-  pub set-turn : (i s s' : ℕ) (r : Bool) → s ≡ setOf p i → r ≡ p i → s' ≡ setWith s i r → s' ≡ setOf p (i + 1)
-  unfolding setOf
-  set-turn i s s' r e q h = rw add-one (h ∙ ap (λ (x : ℕ). setWith x i r) e ∙ ap (setWith (setOf p i) i) q)
+  pub set-turn : (i s s' : ℕ) (r : Bool) → s ≡ set_of p i → r ≡ p i → s' ≡ set_with s i r → s' ≡ set_of p (i + 1)
+  unfolding set_of
+  set-turn i s s' r e q h = rw add-one (h ∙ ap (λ (x : ℕ). set_with x i r) e ∙ ap (set_with (set_of p i) i) q)
 
-  pub set-end : (n i s : ℕ) → i ≤ n → n ≤ i → s ≡ setOf p i → s ≡ setOf p n
-  set-end n i s h k e = e ∙ ap (setOf p) (le_antisymm h k)
+  pub set-end : (n i s : ℕ) → i ≤ n → n ≤ i → s ≡ set_of p i → s ≡ set_of p n
+  set-end n i s h k e = e ∙ ap (set_of p) (le_antisymm h k)
 
-  pub set_room : (i s : ℕ) → s ≡ setOf p i → s < 2 ^ i
+  pub set_room : (i s : ℕ) → s ≡ set_of p i → s < 2 ^ i
   set_room i s e = rw e (set-lt i)
 
   -- the set stays as it is where test(i) fails
-  pub set_on : (i s s' : ℕ) (r : Bool) → s ≡ setOf p i → r ≡ p i → r ≡ false → s' ≡ s → s' ≡ setOf p (i + 1)
+  pub set_on : (i s s' : ℕ) (r : Bool) → s ≡ set_of p i → r ≡ p i → r ≡ false → s' ≡ s → s' ≡ set_of p (i + 1)
   set_on i s s' r e q t g = set-turn i s s' r e q (g ∙ rw (t, with_out))
 
 -- ---- a loop `while i < n { if test(i) { set += 1 << i; } i += 1; } set`, in a number of k bits
 
-module _ (k : ℕ) (p : ℕ → Bool) (i s : ℕ) (w : i < k) (e : s ≡ setOf p i) where
+module _ (k : ℕ) (p : ℕ → Bool) (i s : ℕ) (w : i < k) (e : s ≡ set_of p i) where
   pub set-fits : s + 1 * 2 ^ i % 2 ^ k < 2 ^ k
-  set-fits = rw (one_shl k i w) (top-fits k s i w (set_room p i s e))
+  set-fits = rw (one_shl k i w) (top_fits k s i w (set_room p i s e))
 
-  pub set-up : (s' : ℕ) (r : Bool) → r ≡ p i → r ≡ true → s' ≡ s + 1 * 2 ^ i % 2 ^ k → s' ≡ setOf p (i + 1)
+  pub set-up : (s' : ℕ) (r : Bool) → r ≡ p i → r ≡ true → s' ≡ s + 1 * 2 ^ i % 2 ^ k → s' ≡ set_of p (i + 1)
   set-up s' r q t g = set-turn p i s s' r e q (g ∙ rw (one_shl k i w, t, with_in))
 
 pub ruleset collects = (set-start, set-turn, set-end, set_room, set_on)

@@ -3,36 +3,36 @@ use mathlib.Core.Path.{◌≡◌, refl, sym, ap, ◌∙◌}
 use mathlib.Core.Logic.{◌⊎◌, inl, inr, ⊎_elim}
 use Prim.Native.Nat.{ℕ, zero, suc, ◌^◌, ◌≤◌, ◌<◌}
 use native.Mathlib.Omega.{arith}
-use Rattle.folds.proofs.Below.{below-cases, lt-or-ge, eq-or-ne}
+use Rattle.folds.proofs.Below.{below_cases, lt_or_ge, eq_or_ne}
 use Rattle.sets.specs.Sets.{bit, weight, Before, Precedes}
-use Rattle.sets.proofs.Bits.{bit-cases, bits-equal, some-bit, bit_below}
-use Rattle.sets.proofs.Flip.{pow-bit, pow-bit-other}
+use Rattle.sets.proofs.Bits.{bit_cases, bits_equal, some_bit, bit_below}
+use Rattle.sets.proofs.Flip.{pow_bit, pow_bit_other}
 use Rattle.sets.proofs.Weight.{weight-empty, weight-out, weight-alike}
 
 -- which way the order goes: the set of a lower test alone comes before that of a higher one
-pub lower-first : (t u : ℕ) → t < u → Before (2 ^ t) (2 ^ u)
-lower-first t u l =
-    (t, pow-bit t, pow-bit-other u t (λ e. omega arith), λ i m. pow-bit-other t i (λ e. omega arith) ∙ sym (pow-bit-other u i (λ e. omega arith)))
+pub lower_first : (t u : ℕ) → t < u → Before (2 ^ t) (2 ^ u)
+lower_first t u l =
+    (t, pow_bit t, pow_bit_other u t (λ e. omega arith), λ i m. pow_bit_other t i (λ e. omega arith) ∙ sym (pow_bit_other u i (λ e. omega arith)))
 
-pub before-not : (s s' : ℕ) → Before s s' → Before s' s → ⊥
-before-not s s' (i, a, b, e) (j, a', b', e') =
+pub before_not : (s s' : ℕ) → Before s s' → Before s' s → ⊥
+before_not s s' (i, a, b, e) (j, a', b', e') =
     ⊎_elim (λ l. omega (arith, e' i l))
-    (λ l. ⊎_elim (λ m. omega (arith, e j m)) (λ m. let q : i ≡ j = omega arith in omega (arith, ap (bit s) q)) (lt-or-ge j i)) (lt-or-ge i j)
+    (λ l. ⊎_elim (λ m. omega (arith, e j m)) (λ m. let q : i ≡ j = omega arith in omega (arith, ap (bit s) q)) (lt_or_ge j i)) (lt_or_ge i j)
 
-pub before-trans : (s s' s'' : ℕ) → Before s s' → Before s' s'' → Before s s''
-before-trans s s' s'' (i, a, b, e) (j, a', b', e') =
+pub before_trans : (s s' s'' : ℕ) → Before s s' → Before s' s'' → Before s s''
+before_trans s s' s'' (i, a, b, e) (j, a', b', e') =
     ⊎_elim (λ (l : i < j). (i, a, sym (e' i l) ∙ b, λ u m. e u m ∙ e' u (omega arith)))
     (λ (l : j ≤ i). ⊎_elim
     (λ (m : j < i). (j, e j m ∙ a', b', λ u k. e u (omega arith) ∙ e' u k))
-    (λ (m : i ≤ j). let q : i ≡ j = omega arith in absurd (omega (arith, ap (bit s') q))) (lt-or-ge j i)) (lt-or-ge i j)
+    (λ (m : i ≤ j). let q : i ≡ j = omega arith in absurd (omega (arith, ap (bit s') q))) (lt_or_ge j i)) (lt_or_ge i j)
 
 -- two sets agree in the tests below n, or one of them comes first
-compare-below : (s s' n : ℕ) → ((t : ℕ) → t < n → bit s t ≡ bit s' t) ⊎ (Before s s' ⊎ Before s' s)
-compare-below s s' zero = inl (λ t l. absurd (omega arith))
-compare-below s s' (suc n) = go (compare-below s s' n) (bit-cases s n) (bit-cases s' n)
+compare_below : (s s' n : ℕ) → ((t : ℕ) → t < n → bit s t ≡ bit s' t) ⊎ (Before s s' ⊎ Before s' s)
+compare_below s s' zero = inl (λ t l. absurd (omega arith))
+compare_below s s' (suc n) = go (compare_below s s' n) (bit_cases s n) (bit_cases s' n)
   where
     same : ((t : ℕ) → t < n → bit s t ≡ bit s' t) → bit s n ≡ bit s' n → (t : ℕ) → t < suc n → bit s t ≡ bit s' t
-    same all q t l = ⊎_elim (λ m. all t m) (λ e. ap (bit s) e ∙ q ∙ ap (bit s') (sym e)) (below-cases t n l)
+    same all q t l = ⊎_elim (λ m. all t m) (λ e. ap (bit s) e ∙ q ∙ ap (bit s') (sym e)) (below_cases t n l)
 
     go : ((t : ℕ) → t < n → bit s t ≡ bit s' t) ⊎ (Before s s' ⊎ Before s' s) → (bit s n ≡ 0) ⊎ (bit s n ≡ 1) → (bit s' n ≡ 0) ⊎ (bit s' n ≡ 1)
         → ((t : ℕ) → t < suc n → bit s t ≡ bit s' t) ⊎ (Before s s' ⊎ Before s' s)
@@ -52,7 +52,7 @@ module _ (w : ℕ → ℕ) where
   precedes-antisym s s' (inr (n, inl e)) q = e
   precedes-antisym s s' (inr (n, inr b)) (inl l) = absurd (omega arith)
   precedes-antisym s s' (inr (n, inr b)) (inr (n', inl e)) = sym e
-  precedes-antisym s s' (inr (n, inr b)) (inr (n', inr b')) = absurd (before-not s s' b b')
+  precedes-antisym s s' (inr (n, inr b)) (inr (n', inr b')) = absurd (before_not s s' b b')
 
   pub precedes-trans : (s s' s'' : ℕ) → Precedes w s s' → Precedes w s' s'' → Precedes w s s''
   precedes-trans s s' s'' (inl l) q = inl (omega (arith, precedes-weight s' s'' q))
@@ -63,17 +63,17 @@ module _ (w : ℕ → ℕ) where
       go (inl e) (inl e') = inl (e ∙ e')
       go (inl e) (inr b) = inr (rw e b)
       go (inr b) (inl e) = inr (rw (← e) b)
-      go (inr b) (inr b') = inr (before-trans s s' s'' b b')
+      go (inr b) (inr b') = inr (before_trans s s' s'' b b')
 
   -- of two sets below 2 ^ n one precedes the other
   pub precedes-total : (n s s' : ℕ) → s < 2 ^ n → s' < 2 ^ n → Precedes w s s' ⊎ Precedes w s' s
   precedes-total n s s' h h' = ⊎_elim
       (λ l. inl (inl l))
-      (λ l. ⊎_elim (λ m. inr (inl m)) (λ m. equal (omega arith) (compare-below s s' n)) (lt-or-ge (weight w s') (weight w s)))
-      (lt-or-ge (weight w s) (weight w s'))
+      (λ l. ⊎_elim (λ m. inr (inl m)) (λ m. equal (omega arith) (compare_below s s' n)) (lt_or_ge (weight w s') (weight w s)))
+      (lt_or_ge (weight w s) (weight w s'))
     where
       equal : weight w s ≡ weight w s' → ((t : ℕ) → t < n → bit s t ≡ bit s' t) ⊎ (Before s s' ⊎ Before s' s) → Precedes w s s' ⊎ Precedes w s' s
-      equal e (inl all) = inl (inr (e, inl (bits-equal n s s' h h' all)))
+      equal e (inl all) = inl (inr (e, inl (bits_equal n s s' h h' all)))
       equal e (inr (inl b)) = inl (inr (e, inr b))
       equal e (inr (inr b)) = inr (inr (sym e, inr b))
 
@@ -81,14 +81,14 @@ module _ (w : ℕ → ℕ) where
   pub empty-first : ((t : ℕ) → 0 < w t) → (s : ℕ) → s < 2 ^ 24 → Precedes w 0 s
   empty-first positive s h = ⊎_elim
       (λ (e : s ≡ 0). inr (ap (weight w) (sym e), inl (sym e)))
-      (λ (ne : s ≡ 0 → ⊥). let b = some-bit s ne in inl (omega (arith, weight-empty w, weight-out w s b.0 (bit_below 24 s b.0 h b.1) b.1, positive b.0)))
-      (eq-or-ne s 0)
+      (λ (ne : s ≡ 0 → ⊥). let b = some_bit s ne in inl (omega (arith, weight-empty w, weight-out w s b.0 (bit_below 24 s b.0 h b.1) b.1, positive b.0)))
+      (eq_or_ne s 0)
 
 -- weights that agree in each of the 24 tests order the sets alike
-pub precedes-alike : (v w : ℕ → ℕ) → ((t : ℕ) → t < 24 → v t ≡ w t) → (s s' : ℕ) → Precedes v s s' → Precedes w s s'
-precedes-alike v w same s s' p = rw (← weight-alike v w same s, ← weight-alike v w same s') p
+pub precedes_alike : (v w : ℕ → ℕ) → ((t : ℕ) → t < 24 → v t ≡ w t) → (s s' : ℕ) → Precedes v s s' → Precedes w s s'
+precedes_alike v w same s s' p = rw (← weight-alike v w same s, ← weight-alike v w same s') p
 
 -- {0} comes before {1}, and {0, 3} before {1, 2}
-example-order : Before 1 2 × Before 9 6
+example_order : Before 1 2 × Before 9 6
 unfolding bit
-example-order = ((0, refl, refl, λ u l. absurd (omega arith)), (0, refl, refl, λ u l. absurd (omega arith)))
+example_order = ((0, refl, refl, λ u l. absurd (omega arith)), (0, refl, refl, λ u l. absurd (omega arith)))

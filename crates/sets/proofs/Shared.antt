@@ -8,53 +8,53 @@ use lib.Bits.{bit_and, and_shr, and_step, bit_or, or_shr, or_step}
 use lib.Dec.{eqb}
 use lib.Pow.{pow-lt}
 use Rattle.folds.specs.Fold.{both}
-use Rattle.folds.proofs.Below.{eq-or-ne}
+use Rattle.folds.proofs.Below.{eq_or_ne}
 use Rattle.sets.specs.Sets.{bit, has}
 use Rattle.sets.specs.Inner.{Shares}
-use Rattle.sets.proofs.Bits.{bit-lt, bit-cases, bit-out, has-yes, has_no, bit-zero, bit_below, bits-equal, below-of-bits, some-bit}
-use Rattle.sets.proofs.Flip.{pow-bit, pow-bit-other}
+use Rattle.sets.proofs.Bits.{bit_lt, bit_cases, bit_out, has_yes, has_no, bit_zero, bit_below, bits_equal, below_of_bits, some_bit}
+use Rattle.sets.proofs.Flip.{pow_bit, pow_bit_other}
 
-pub bit-and : (a b t : ℕ) → bit (bit_and a b) t ≡ min (bit a t) (bit b t)
+pub bit-bit_and : (a b t : ℕ) → bit (bit_and a b) t ≡ min (bit a t) (bit b t)
 unfolding bit
-bit-and a b t =
+bit-bit_and a b t =
     ap (λ (x : ℕ). x % 2) (and_shr a b t ∙ and_step (a / 2 ^ t) (b / 2 ^ t))
     ∙ digits_mod (bit_and (a / 2 ^ t / 2) (b / 2 ^ t / 2)) {m = 2} (omega arith)
 
-pub has-and : (a b t : ℕ) → has (bit_and a b) t ≡ both (has a t) (has b t)
+pub has_and : (a b t : ℕ) → has (bit_and a b) t ≡ both (has a t) (has b t)
 unfolding has
-has-and a b t = ⊎_elim
-    (λ x. has_no (bit_and a b) t (omega (arith, bit-and a b t)) ∙ rw (has_no a t x))
-    (λ x. let e : bit (bit_and a b) t ≡ bit b t = omega (arith, bit-and a b t, bit-lt b t) in rw (has-yes a t x) (ap (λ (k : ℕ). eqb k 1) e))
-    (bit-cases a t)
+has_and a b t = ⊎_elim
+    (λ x. has_no (bit_and a b) t (omega (arith, bit-bit_and a b t)) ∙ rw (has_no a t x))
+    (λ x. let e : bit (bit_and a b) t ≡ bit b t = omega (arith, bit-bit_and a b t, bit_lt b t) in rw (has_yes a t x) (ap (λ (k : ℕ). eqb k 1) e))
+    (bit_cases a t)
 
-pub bit-or : (a b t : ℕ) → bit (bit_or a b) t ≡ max (bit a t) (bit b t)
+pub bit-bit_or : (a b t : ℕ) → bit (bit_or a b) t ≡ max (bit a t) (bit b t)
 unfolding bit
-bit-or a b t =
+bit-bit_or a b t =
     ap (λ (x : ℕ). x % 2) (or_shr a b t ∙ or_step (a / 2 ^ t) (b / 2 ^ t))
     ∙ digits_mod (bit_or (a / 2 ^ t / 2) (b / 2 ^ t / 2)) {m = 2} (omega arith)
 
 pub shares : (m s : ℕ) → (bit_and m s ≡ 0 → ⊥) → Shares m s
 shares m s h =
-    let r = some-bit (bit_and m s) h in
-    (r.0, omega (arith, bit-and m s r.0, r.1, bit-lt m r.0), omega (arith, bit-and m s r.0, r.1, bit-lt s r.0))
+    let r = some_bit (bit_and m s) h in
+    (r.0, omega (arith, bit-bit_and m s r.0, r.1, bit_lt m r.0), omega (arith, bit-bit_and m s r.0, r.1, bit_lt s r.0))
 
-pub shares-not : (m s : ℕ) → bit_and m s ≡ 0 → Shares m s → ⊥
-shares-not m s e (t, a, b) = omega (arith, bit-and m s t, ap (λ (x : ℕ). bit x t) e, bit-zero t)
+pub shares_not : (m s : ℕ) → bit_and m s ≡ 0 → Shares m s → ⊥
+shares_not m s e (t, a, b) = omega (arith, bit-bit_and m s t, ap (λ (x : ℕ). bit x t) e, bit_zero t)
 
 -- test t is the only one that two sets share
 module _ (m s t : ℕ) where
   both-in : (u : ℕ) → bit (bit_and m s) u ≡ 1 → (bit m u ≡ 1) × (bit s u ≡ 1)
-  both-in u e = (omega (arith, bit-and m s u, bit-lt m u), omega (arith, bit-and m s u, bit-lt s u))
+  both-in u e = (omega (arith, bit-bit_and m s u, bit_lt m u), omega (arith, bit-bit_and m s u, bit_lt s u))
 
   module _ (e : bit_and m s ≡ 2 ^ t) where
     pub only-in : (bit m t ≡ 1) × (bit s t ≡ 1)
-    only-in = both-in t (ap (λ (x : ℕ). bit x t) e ∙ pow-bit t)
+    only-in = both-in t (ap (λ (x : ℕ). bit x t) e ∙ pow_bit t)
 
     pub only_one : (u : ℕ) → bit m u ≡ 1 → bit s u ≡ 1 → u ≡ t
-    only_one u a b = ⊎_elim (λ q. q) (λ ne. absurd (omega (arith, bit-and m s u, ap (λ (x : ℕ). bit x u) e, pow-bit-other t u ne))) (eq-or-ne u t)
+    only_one u a b = ⊎_elim (λ q. q) (λ ne. absurd (omega (arith, bit-bit_and m s u, ap (λ (x : ℕ). bit x u) e, pow_bit_other t u ne))) (eq_or_ne u t)
 
   pub only_of : (n : ℕ) → m < 2 ^ n → bit m t ≡ 1 → bit s t ≡ 1 → ((u : ℕ) → bit m u ≡ 1 → bit s u ≡ 1 → u ≡ t) → bit_and m s ≡ 2 ^ t
-  only_of n h a b only = bits-equal n (bit_and m s) (2 ^ t) (below-of-bits n (bit_and m s) (λ u e. bit_below n m u h (both-in u e).0)) (pow-lt (bit_below n m t h a)) (λ u l. ⊎_elim
-      (λ (q : u ≡ t). rw q (omega (arith, bit-and m s t, pow-bit t)))
-      (λ (ne : u ≡ t → ⊥). bit-out (bit_and m s) u (λ e. let w = both-in u e in ne (only u w.0 w.1)) ∙ sym (pow-bit-other t u ne))
-      (eq-or-ne u t))
+  only_of n h a b only = bits_equal n (bit_and m s) (2 ^ t) (below_of_bits n (bit_and m s) (λ u e. bit_below n m u h (both-in u e).0)) (pow-lt (bit_below n m t h a)) (λ u l. ⊎_elim
+      (λ (q : u ≡ t). rw q (omega (arith, bit-bit_and m s t, pow_bit t)))
+      (λ (ne : u ≡ t → ⊥). bit_out (bit_and m s) u (λ e. let w = both-in u e in ne (only u w.0 w.1)) ∙ sym (pow_bit_other t u ne))
+      (eq_or_ne u t))

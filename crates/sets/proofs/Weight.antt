@@ -9,11 +9,11 @@ use native.Mathlib.Omega.{arith}
 use lib.ListN.{get_or}
 use Rattle.folds.specs.Fold.{total}
 use Rattle.folds.proofs.Count.{count_none, count_yes, count_no}
-use Rattle.folds.proofs.Total.{total-same, total-apart, total-stays, total-none, total-more, total-two, total-le, total-gap}
+use Rattle.folds.proofs.Total.{total_same, total_apart, total_stays, total_none, total_more, total_two, total_le, total_gap}
 use Rattle.sets.specs.Sets.{bit, has, share, weight, one, size}
-use Rattle.sets.specs.Inner.{weightIn}
-use Rattle.sets.proofs.Bits.{bit-cases, bit_high, has-yes, has_no, top_bit, top_below, top_lt}
-use Rattle.sets.proofs.Flip.{flip, flip-out, flip-in, flip-other}
+use Rattle.sets.specs.Inner.{weight_in}
+use Rattle.sets.proofs.Bits.{bit_cases, bit_high, has_yes, has_no, top_bit, top_below, top_lt}
+use Rattle.sets.proofs.Flip.{flip, flip_out, flip_in, flip_other}
 
 module _ (w : ℕ → ℕ) where
   pub share_in : (s t : ℕ) → bit s t ≡ 1 → share w s t ≡ w t
@@ -30,29 +30,29 @@ module _ (w : ℕ → ℕ) where
 
   -- a set with one test put in or taken out differs by what that test adds
   weight-flip : (s t : ℕ) → t < 24 → weight w s + share w (flip s t) t ≡ weight w (flip s t) + share w s t
-  weight-flip s t l = total-apart (share w s) (share w (flip s t)) 24 t l (λ i ne. share-same s (flip s t) i (sym (flip-other s t i ne)))
+  weight-flip s t l = total_apart (share w s) (share w (flip s t)) 24 t l (λ i ne. share-same s (flip s t) i (sym (flip_other s t i ne)))
 
   -- taking out test t makes the set lighter by that test's weight
   pub weight-out : (s t : ℕ) → t < 24 → bit s t ≡ 1 → weight w (flip s t) + w t ≡ weight w s
-  weight-out s t l e = omega (arith, weight-flip s t l, share_in s t e, share-out (flip s t) t (flip-out s t e))
+  weight-out s t l e = omega (arith, weight-flip s t l, share_in s t e, share-out (flip s t) t (flip_out s t e))
 
   -- putting in test t makes the set heavier by that test's weight
   pub weight-in : (s t : ℕ) → t < 24 → bit s t ≡ 0 → weight w (flip s t) ≡ weight w s + w t
-  weight-in s t l e = omega (arith, weight-flip s t l, share-out s t e, share_in (flip s t) t (flip-in s t e))
+  weight-in s t l e = omega (arith, weight-flip s t l, share-out s t e, share_in (flip s t) t (flip_in s t e))
 
   -- the tests from n on add nothing to a set below 2 ^ n
   pub weight-below : (n s : ℕ) → n ≤ 24 → s < 2 ^ n → weight w s ≡ total (share w s) n
-  weight-below n s l h = total-stays (share w s) n 24 l (λ i m. share-out s i (bit_high s n i h m))
+  weight-below n s l h = total_stays (share w s) n 24 l (λ i m. share-out s i (bit_high s n i h m))
 
   -- one test more at the top
   pub weight-top : (c t : ℕ) → t < 24 → c < 2 ^ t → weight w (c + 2 ^ t) ≡ weight w c + w t
   weight-top c t l h =
       let a : weight w (c + 2 ^ t) ≡ total (share w (c + 2 ^ t)) (suc t) = weight-below (suc t) (c + 2 ^ t) (omega arith) (top_lt c t h) in
-      let b : total (share w (c + 2 ^ t)) t ≡ total (share w c) t = total-same _ _ t (λ i m. share-same (c + 2 ^ t) c i (top_below c t i h m)) in
-      omega (arith, weight-below t c (omega arith) h, total-more (share w (c + 2 ^ t)) t, share_in (c + 2 ^ t) t (top_bit c t h))
+      let b : total (share w (c + 2 ^ t)) t ≡ total (share w c) t = total_same _ _ t (λ i m. share-same (c + 2 ^ t) c i (top_below c t i h m)) in
+      omega (arith, weight-below t c (omega arith) h, total_more (share w (c + 2 ^ t)) t, share_in (c + 2 ^ t) t (top_bit c t h))
 
   pub weight-empty : weight w 0 ≡ 0
-  weight-empty = weight-below 0 0 (omega arith) (omega arith) ∙ total-none (share w 0)
+  weight-empty = weight-below 0 0 (omega arith) (omega arith) ∙ total_none (share w 0)
 
   -- ---- weights, test by test
 
@@ -65,19 +65,19 @@ module _ (w : ℕ → ℕ) where
   share-le a b i h = mul-le-mul_right (w i) h
 
   pub weight-two : (a b s : ℕ) → ((i : ℕ) → bit a i + bit b i ≤ bit s i) → weight w a + weight w b ≤ weight w s
-  weight-two a b s h = total-two (share w a) (share w b) (share w s) 24 (λ i. share-two a b s i (h i))
+  weight-two a b s h = total_two (share w a) (share w b) (share w s) 24 (λ i. share-two a b s i (h i))
 
   -- a set with a test j more
   pub weight-more : (a b j : ℕ) → j < 24 → ((i : ℕ) → bit a i ≤ bit b i) → bit a j ≡ 0 → bit b j ≡ 1 → weight w a + w j ≤ weight w b
   weight-more a b j l h o e =
-      total-gap (share w a) (share w b) 24 j (w j) l (λ i. share-le a b i (h i)) (omega (arith, share-out a j o, share_in b j e))
+      total_gap (share w a) (share w b) 24 j (w j) l (λ i. share-le a b i (h i)) (omega (arith, share-out a j o, share_in b j e))
 
   share-most : (s i : ℕ) → share w s i ≤ w i
-  share-most s i = ⊎_elim (λ e. omega (arith, share-out s i e)) (λ e. omega (arith, share_in s i e)) (bit-cases s i)
+  share-most s i = ⊎_elim (λ e. omega (arith, share-out s i e)) (λ e. omega (arith, share_in s i e)) (bit_cases s i)
 
   -- no set is heavier than all tests together
   pub weight-most : (s : ℕ) → weight w s ≤ total w 24
-  weight-most s = total-le (share w s) w 24 (share-most s)
+  weight-most s = total_le (share w s) w 24 (share-most s)
 
 -- ---- weights that agree in each of the 24 tests weigh every set alike
 
@@ -87,36 +87,36 @@ module _ (v w : ℕ → ℕ) (same : (t : ℕ) → t < 24 → v t ≡ w t) where
   share-alike s t l = rw (same t l)
 
   pub weight-alike : (s : ℕ) → weight v s ≡ weight w s
-  weight-alike s = total-same (share v s) (share w s) 24 (share-alike s)
+  weight-alike s = total_same (share v s) (share w s) 24 (share-alike s)
 
 -- ---- weights in a list
 
-pub weight-at : (ws : List ℕ) (t : ℕ) → weightIn ws t ≡ get_or ws t 0
-unfolding weightIn
-weight-at ws t = refl
+pub weight_at : (ws : List ℕ) (t : ℕ) → weight_in ws t ≡ get_or ws t 0
+unfolding weight_in
+weight_at ws t = refl
 
 -- ---- each test weighs 1
 
-pub one-is : (t : ℕ) → one t ≡ 1
+pub one_is : (t : ℕ) → one t ≡ 1
 unfolding one
-one-is t = refl
+one_is t = refl
 
-pub one-total : (n : ℕ) → total one n ≡ n
-one-total zero = total-none one
-one-total (suc n) = omega (arith, total-more one n, one-total n, one-is n)
+pub one_total : (n : ℕ) → total one n ≡ n
+one_total zero = total_none one
+one_total (suc n) = omega (arith, total_more one n, one_total n, one_is n)
 
-pub one-most : (s : ℕ) → weight one s ≤ 24
-one-most s = omega (arith, weight-most one s, one-total 24)
+pub one_most : (s : ℕ) → weight one s ≤ 24
+one_most s = omega (arith, weight-most one s, one_total 24)
 
 -- the weight is the number of tests
-shares-count : (s n : ℕ) → total (share one s) n ≡ size s n
-shares-count s zero = total-none (share one s) ∙ sym (count_none (has s))
-shares-count s (suc n) =
+shares_count : (s n : ℕ) → total (share one s) n ≡ size s n
+shares_count s zero = total_none (share one s) ∙ sym (count_none (has s))
+shares_count s (suc n) =
     let q : size s (n + 1) ≡ size s (suc n) = ap (size s) (add-one n) in
     ⊎_elim
-    (λ e. omega (arith, shares-count s n, total-more (share one s) n, share-out one s n e, count_no (has s) n (has_no s n e)))
-    (λ e. omega (arith, shares-count s n, total-more (share one s) n, share_in one s n e, one-is n, count_yes (has s) n (has-yes s n e)))
-    (bit-cases s n)
+    (λ e. omega (arith, shares_count s n, total_more (share one s) n, share-out one s n e, count_no (has s) n (has_no s n e)))
+    (λ e. omega (arith, shares_count s n, total_more (share one s) n, share_in one s n e, one_is n, count_yes (has s) n (has_yes s n e)))
+    (bit_cases s n)
 
-pub one-counts : (n s : ℕ) → n ≤ 24 → s < 2 ^ n → weight one s ≡ size s n
-one-counts n s l h = weight-below one n s l h ∙ shares-count s n
+pub one_counts : (n s : ℕ) → n ≤ 24 → s < 2 ^ n → weight one s ≡ size s n
+one_counts n s l h = weight-below one n s l h ∙ shares_count s n

@@ -12,5 +12,5 @@ unfoldable pub within : ℕ → ℕ → Bool
 within s n = ltb s (2 ^ n)
 
 -- the weight of test t in a list of weights
-unfoldable pub weightIn : List ℕ → ℕ → ℕ
-weightIn ws t = get_or ws t 0
+unfoldable pub weight_in : List ℕ → ℕ → ℕ
+weight_in ws t = get_or ws t 0

@@ -11,44 +11,44 @@ use lib.ListN.{length, get_or, set}
 use lib.Seq.{ext_get_or}
 use Rattle.folds.specs.Fold.{either, every, count, gather}
 use Rattle.folds.proofs.Bools.{clash, both_true, both_left, both_right, either_second}
-use Rattle.folds.proofs.Count.{count-le, count_less, count-reaches, count_yes, count_no}
-use Rattle.folds.proofs.Every.{every-at, every-lacks, every-stop, every-end}
+use Rattle.folds.proofs.Count.{count_le, count_less, count_reaches, count_yes, count_no}
+use Rattle.folds.proofs.Every.{every_at, every_lacks, every_stop, every_end}
 use Rattle.folds.proofs.Gather.{gather-length, gather-store}
-use Rattle.folds.proofs.Onto.{onto-length}
-use Rattle.asks.proofs.Answers.{unlisted-length}
+use Rattle.folds.proofs.Onto.{onto_length}
+use Rattle.asks.proofs.Answers.{unlisted_length}
 use Rattle.sets.specs.Sets.{has, size}
 use Rattle.table.specs.Answers.{unlisted}
 use Rattle.table.specs.declared.Verdict.TheVariants.{Accepted}
 use Rattle.terms.specs.Columns.{outputOf, outputsUnder}
 use Rattle.terms_laws.proofs.Classes.{signature-get}
-use Rattle.suspects.specs.Suspects.{equal, itself, columnsWith, suspect}
-use Rattle.suspects.specs.Inner.{answers, foundUnder}
+use Rattle.suspects.specs.Suspects.{equal, itself, columns_with, suspect}
+use Rattle.suspects.specs.Inner.{answers, found_under}
 
 -- ---- equal lists
 
-equal-refl : (xs : List ℕ) → equal xs xs ≡ true
+equal_refl : (xs : List ℕ) → equal xs xs ≡ true
 unfolding equal
-equal-refl [] = refl
-equal-refl (x ∷ xs) = both_true _ _ (eq-eqb x x refl) (equal-refl xs)
+equal_refl [] = refl
+equal_refl (x ∷ xs) = both_true _ _ (eq-eqb x x refl) (equal_refl xs)
 
-equal-same : (xs ys : List ℕ) → equal xs ys ≡ true → xs ≡ ys
+equal_same : (xs ys : List ℕ) → equal xs ys ≡ true → xs ≡ ys
 unfolding equal
-equal-same [] [] h = refl
-equal-same [] (y ∷ ys) h = clash _ h refl
-equal-same (x ∷ xs) [] h = clash _ h refl
-equal-same (x ∷ xs) (y ∷ ys) h =
+equal_same [] [] h = refl
+equal_same [] (y ∷ ys) h = clash _ h refl
+equal_same (x ∷ xs) [] h = clash _ h refl
+equal_same (x ∷ xs) (y ∷ ys) h =
     let p = eqb-true x y (both_left _ _ h) in
-    let q = equal-same xs ys (both_right (eqb x y) _ h) in
+    let q = equal_same xs ys (both_right (eqb x y) _ h) in
     cc
 
 module _ (out : ℕ → ℕ → ℕ) (tests s : ℕ) (seen : List ℕ) where
   pub suspect-same : (c : ℕ) → suspect out tests s seen c ≡ true → outputsUnder out tests s c ≡ seen
   unfolding suspect
-  suspect-same c h = equal-same _ _ h
+  suspect-same c h = equal_same _ _ h
 
   pub same-suspect : (c : ℕ) → outputsUnder out tests s c ≡ seen → suspect out tests s seen c ≡ true
   unfolding suspect
-  same-suspect c e = rw e (equal-refl seen)
+  same-suspect c e = rw e (equal_refl seen)
 
   -- ---- test by test
 
@@ -61,10 +61,10 @@ module _ (out : ℕ → ℕ → ℕ) (tests s : ℕ) (seen : List ℕ) where
     all-answer h =
         let l : length (outputsUnder out tests s c) ≡ size s tests = gather-length (has s) (outputOf out c) tests in
         ext_get_or 0 (outputsUnder out tests s c) seen (l ∙ sym one_each)
-        (λ i w. at_place i (count-reaches (has s) tests i (omega arith)))
+        (λ i w. at_place i (count_reaches (has s) tests i (omega arith)))
       where
         at_place : (i : ℕ) → (t : ℕ) × (t < tests) × (has s t ≡ true) × (size s t ≡ i) → get_or (outputsUnder out tests s c) i 0 ≡ get_or seen i 0
-        at_place i (t, w, k, e) = rw (← e) (signature-get out tests s c t w k ∙ answer_at t (every-at (answers out s seen c) tests t h w) k)
+        at_place i (t, w, k, e) = rw (← e) (signature-get out tests s c t w k ∙ answer_at t (every_at (answers out s seen c) tests t h w) k)
 
     lacks-answer : (t : ℕ) → answers out s seen c t ≡ false → (has s t ≡ true) × (out t c ≡ get_or seen (size s t) 0 → ⊥)
     unfolding answers
@@ -83,17 +83,17 @@ module _ (out : ℕ → ℕ → ℕ) (tests s : ℕ) (seen : List ℕ) where
         go true false e f = clash _ (same-suspect c (all-answer e)) f
         go false false e f = refl
         go false true e f =
-            let x = every-lacks (answers out s seen c) tests e in
+            let x = every_lacks (answers out s seen c) tests e in
             let y = lacks-answer x.0 x.2 in
             absurd (y.1 (sym (signature-get out tests s c x.0 x.1 y.0) ∙ ap (λ (l : List ℕ). get_or l (size s x.0) 0) (suspect-same c f)))
 
     -- ---- a loop over the tests, with the invariant every (answers out s seen c) i ≡ true
 
     pub suspect-stop : (i : ℕ) (r : Bool) → i < tests → r ≡ answers out s seen c i → not r ≡ true → false ≡ suspect out tests s seen c
-    suspect-stop i r w e h = every-stop (answers out s seen c) tests i r w e h ∙ suspect-answers
+    suspect-stop i r w e h = every_stop (answers out s seen c) tests i r w e h ∙ suspect-answers
 
     pub suspect-end : (i : ℕ) → i ≤ tests → tests ≤ i → every (answers out s seen c) i ≡ true → true ≡ suspect out tests s seen c
-    suspect-end i w u e = every-end (answers out s seen c) tests i w u e ∙ suspect-answers
+    suspect-end i w u e = every_end (answers out s seen c) tests i w u e ∙ suspect-answers
 
 -- ---- what the code asks
 
@@ -107,26 +107,26 @@ module _ (out : ℕ → ℕ → ℕ) (s : ℕ) (seen : List ℕ) (c t : ℕ) (r 
   answer-held j v h e f = simp (← q, not-false r h, e, f)
 
 -- the output observed for a test of the set stands in the list
-pub output-there : (s tests t j : ℕ) (r : Bool) (seen : List ℕ) → t < tests → length seen ≡ size s tests → j ≡ size s t → r ≡ has s t → not r ≡ false → j < length seen
-output-there s tests t j r seen w l e q h = omega (arith, count_less (has s) t tests w (sym q ∙ not-false r h))
+pub output_there : (s tests t j : ℕ) (r : Bool) (seen : List ℕ) → t < tests → length seen ≡ size s tests → j ≡ size s t → r ≡ has s t → not r ≡ false → j < length seen
+output_there s tests t j r seen w l e q h = omega (arith, count_less (has s) t tests w (sym q ∙ not-false r h))
 
 -- the place of the next output
-pub place-stays : (s t j : ℕ) (r : Bool) → j ≡ size s t → r ≡ has s t → not r ≡ true → j ≡ size s (t + 1)
-place-stays s t j r e q h = omega (arith, count_no (has s) t (sym q ∙ not-true r h))
+pub place_stays : (s t j : ℕ) (r : Bool) → j ≡ size s t → r ≡ has s t → not r ≡ true → j ≡ size s (t + 1)
+place_stays s t j r e q h = omega (arith, count_no (has s) t (sym q ∙ not-true r h))
 
-pub place-moves : (s t j : ℕ) (r : Bool) → j ≡ size s t → r ≡ has s t → not r ≡ false → j + 1 ≡ size s (t + 1)
-place-moves s t j r e q h = omega (arith, count_yes (has s) t (sym q ∙ not-false r h))
+pub place_moves : (s t j : ℕ) (r : Bool) → j ≡ size s t → r ≡ has s t → not r ≡ false → j + 1 ≡ size s (t + 1)
+place_moves s t j r e q h = omega (arith, count_yes (has s) t (sym q ∙ not-false r h))
 
 module _ (p : ℕ → Bool) where
   -- the next suspect is stored behind those before it
-  pub list_put : (i j n : ℕ) (r : Bool) (b b' : List ℕ) → b ≡ columnsWith p i → j ≡ count p i → i < n → n ≤ 61
-      → r ≡ p i → r ≡ true → b' ≡ set b j i → b' ≡ columnsWith p (i + 1)
+  pub list_put : (i j n : ℕ) (r : Bool) (b b' : List ℕ) → b ≡ columns_with p i → j ≡ count p i → i < n → n ≤ 61
+      → r ≡ p i → r ≡ true → b' ≡ set b j i → b' ≡ columns_with p (i + 1)
   list_put i j n r b b' e f w u q h t =
       let m = gather-length p itself i in
-      let l : length b ≡ length unlisted = ap length e ∙ onto-length (gather p itself i) unlisted (omega (arith, count-le p i, unlisted-length)) in
-      gather-store p itself i j i r unlisted b b' e f (omega (arith, count-le p i, unlisted-length)) l q h refl t
+      let l : length b ≡ length unlisted = ap length e ∙ onto_length (gather p itself i) unlisted (omega (arith, count_le p i, unlisted_length)) in
+      gather-store p itself i j i r unlisted b b' e f (omega (arith, count_le p i, unlisted_length)) l q h refl t
 
-pub found-end : (out : ℕ → ℕ → ℕ) (tests s : ℕ) (seen : List ℕ) (i n k : ℕ) (b : List ℕ) → b ≡ columnsWith (suspect out tests s seen) i
-    → k ≡ count (suspect out tests s seen) i → i ≤ n → n ≤ i → record { verdict = Accepted; count = k; columns = b } ≡ foundUnder out tests s seen n
-unfolding foundUnder
-found-end out tests s seen i n k b e f w u = rw (e, f, le_antisymm w u)
+pub found_end : (out : ℕ → ℕ → ℕ) (tests s : ℕ) (seen : List ℕ) (i n k : ℕ) (b : List ℕ) → b ≡ columns_with (suspect out tests s seen) i
+    → k ≡ count (suspect out tests s seen) i → i ≤ n → n ≤ i → record { verdict = Accepted; count = k; columns = b } ≡ found_under out tests s seen n
+unfolding found_under
+found_end out tests s seen i n k b e f w u = rw (e, f, le_antisymm w u)

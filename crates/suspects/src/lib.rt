@@ -1,14 +1,14 @@
 // The suspects: the columns whose signature under a set of tests equals the observed outputs.
 ghost use Rattle.std.specs.Prelude.{◌≡◌};
 ghost use Rattle.suspects.specs.Suspects.{SuspectsAre};
-ghost use Rattle.suspects.specs.Inner.{refusedBy};
+ghost use Rattle.suspects.specs.Inner.{refused_by};
 
 use table::{Refusal, Suspects, Table, Verdict};
 
 mod compare;
 
 fn refused(why: Refusal) -> Suspects
-    ensures { result ≡ refusedBy why }
+    ensures { result ≡ refused_by why }
 {
     Suspects {
         verdict: Verdict::Refused(why),

@@ -9,35 +9,35 @@ use Rattle.table.specs.declared.Refusal.TheVariants.{UnknownKind, BodyCut, NoEnd
 use Rattle.table.specs.declared.Verdict.{Verdict}
 use Rattle.table.specs.declared.Faults.{Faults}
 use Rattle.table.specs.declared.Written.{Written}
-use Rattle.table.specs.Answers.{number_of, verdictNumber, faultsNumber, faultsSet, writtenNumber, writtenCount}
+use Rattle.table.specs.Answers.{number_of, verdict_number, faults_number, faults_set, written_number, written_count}
 use Rattle.table.specs.declared.Verdict.TheVariants as verdict
 use Rattle.table.specs.declared.Faults.TheVariants as faults
 use Rattle.table.specs.declared.Written.TheVariants as written
 
 -- a refusal has a number of one or two digits, and not 0
-pub number-bounds : (why : Refusal) → (0 < number_of why) × (number_of why < 100)
-number-bounds UnknownKind = (omega arith, omega arith)
-number-bounds BodyCut = (omega arith, omega arith)
-number-bounds NoEnd = (omega arith, omega arith)
-number-bounds OutOfPlace = (omega arith, omega arith)
-number-bounds TooMany = (omega arith, omega arith)
-number-bounds StuckValue = (omega arith, omega arith)
-number-bounds SameLabel = (omega arith, omega arith)
-number-bounds NotInBook = (omega arith, omega arith)
-number-bounds NotAfter = (omega arith, omega arith)
-number-bounds RepeatsCorrect = (omega arith, omega arith)
-number-bounds WrongCounts = (omega arith, omega arith)
-number-bounds BytesFollow = (omega arith, omega arith)
-number-bounds NotWellFormed = (omega arith, omega arith)
-number-bounds UnknownTest = (omega arith, omega arith)
-number-bounds CapTooHigh = (omega arith, omega arith)
-number-bounds NoneWithinCap = (omega arith, omega arith)
-number-bounds BufferShort = (omega arith, omega arith)
-number-bounds NotOneEach = (omega arith, omega arith)
+pub number_bounds : (why : Refusal) → (0 < number_of why) × (number_of why < 100)
+number_bounds UnknownKind = (omega arith, omega arith)
+number_bounds BodyCut = (omega arith, omega arith)
+number_bounds NoEnd = (omega arith, omega arith)
+number_bounds OutOfPlace = (omega arith, omega arith)
+number_bounds TooMany = (omega arith, omega arith)
+number_bounds StuckValue = (omega arith, omega arith)
+number_bounds SameLabel = (omega arith, omega arith)
+number_bounds NotInBook = (omega arith, omega arith)
+number_bounds NotAfter = (omega arith, omega arith)
+number_bounds RepeatsCorrect = (omega arith, omega arith)
+number_bounds WrongCounts = (omega arith, omega arith)
+number_bounds BytesFollow = (omega arith, omega arith)
+number_bounds NotWellFormed = (omega arith, omega arith)
+number_bounds UnknownTest = (omega arith, omega arith)
+number_bounds CapTooHigh = (omega arith, omega arith)
+number_bounds NoneWithinCap = (omega arith, omega arith)
+number_bounds BufferShort = (omega arith, omega arith)
+number_bounds NotOneEach = (omega arith, omega arith)
 
 -- the refusal of a number
-refusalOf : ℕ → Refusal
-refusalOf n =
+refusal_of : ℕ → Refusal
+refusal_of n =
     whether (eqb n 1) UnknownKind
     (whether (eqb n 2) BodyCut
     (whether (eqb n 3) NoEnd
@@ -61,11 +61,11 @@ refusalOf n =
 module _ {A : Type 0} (accepted : ℕ → A) (refused : Refusal → A) where
   -- the answer of a number and a value
   answer_of : ℕ → ℕ → A
-  answer_of n v = whether (eqb n 0) (accepted v) (refused (refusalOf n))
+  answer_of n v = whether (eqb n 0) (accepted v) (refused (refusal_of n))
 
   -- no two refusals have one number, and none has 0
   refused-back : (why : Refusal) → answer_of (number_of why) 0 ≡ refused why
-  unfolding answer_of refusalOf
+  unfolding answer_of refusal_of
   refused-back UnknownKind = refl
   refused-back BodyCut = refl
   refused-back NoEnd = refl
@@ -93,26 +93,26 @@ module _ {A : Type 0} (accepted : ℕ → A) (refused : Refusal → A) where
   answer-one : (number value : A → ℕ) → ((a : A) → answer_of (number a) (value a) ≡ a) → (a b : A) → number a ≡ number b → value a ≡ value b → a ≡ b
   answer-one number value back a b h k = sym (back a) ∙ (λ i. answer_of (h i) (k i)) ∙ back b
 
-pub number-one : (a b : Refusal) → number_of a ≡ number_of b → a ≡ b
-number-one a b e = answer-one {A = Refusal} (λ v. UnknownKind) (λ why. why) number_of (λ why. 0) (refused-back (λ v. UnknownKind) (λ why. why)) a b e refl
+pub number_one : (a b : Refusal) → number_of a ≡ number_of b → a ≡ b
+number_one a b e = answer-one {A = Refusal} (λ v. UnknownKind) (λ why. why) number_of (λ why. 0) (refused-back (λ v. UnknownKind) (λ why. why)) a b e refl
 
-pub verdict-one : (a b : Verdict) → verdictNumber a ≡ verdictNumber b → a ≡ b
-verdict-one a b e = answer-one {A = Verdict} (λ v. verdict.Accepted) verdict.Refused verdictNumber (λ a. 0) back a b e refl
+pub verdict_one : (a b : Verdict) → verdict_number a ≡ verdict_number b → a ≡ b
+verdict_one a b e = answer-one {A = Verdict} (λ v. verdict.Accepted) verdict.Refused verdict_number (λ a. 0) back a b e refl
   where
-    back : (a : Verdict) → answer_of {A = Verdict} (λ v. verdict.Accepted) verdict.Refused (verdictNumber a) 0 ≡ a
+    back : (a : Verdict) → answer_of {A = Verdict} (λ v. verdict.Accepted) verdict.Refused (verdict_number a) 0 ≡ a
     back verdict.Accepted = accepted-back {A = Verdict} (λ v. verdict.Accepted) verdict.Refused 0
     back (verdict.Refused why) = refused-back {A = Verdict} (λ v. verdict.Accepted) verdict.Refused why
 
-pub faults-one : (a b : Faults) → faultsNumber a ≡ faultsNumber b → faultsSet a ≡ faultsSet b → a ≡ b
-faults-one = answer-one faults.Set faults.Refused faultsNumber faultsSet back
+pub faults_one : (a b : Faults) → faults_number a ≡ faults_number b → faults_set a ≡ faults_set b → a ≡ b
+faults_one = answer-one faults.Set faults.Refused faults_number faults_set back
   where
-    back : (a : Faults) → answer_of faults.Set faults.Refused (faultsNumber a) (faultsSet a) ≡ a
+    back : (a : Faults) → answer_of faults.Set faults.Refused (faults_number a) (faults_set a) ≡ a
     back (faults.Set s) = accepted-back faults.Set faults.Refused s
     back (faults.Refused why) = refused-back faults.Set faults.Refused why
 
-pub written_one : (a b : Written) → writtenNumber a ≡ writtenNumber b → writtenCount a ≡ writtenCount b → a ≡ b
-written_one = answer-one written.Bytes written.Refused writtenNumber writtenCount back
+pub written_one : (a b : Written) → written_number a ≡ written_number b → written_count a ≡ written_count b → a ≡ b
+written_one = answer-one written.Bytes written.Refused written_number written_count back
   where
-    back : (a : Written) → answer_of written.Bytes written.Refused (writtenNumber a) (writtenCount a) ≡ a
+    back : (a : Written) → answer_of written.Bytes written.Refused (written_number a) (written_count a) ≡ a
     back (written.Bytes k) = accepted-back written.Bytes written.Refused k
     back (written.Refused why) = refused-back written.Bytes written.Refused why

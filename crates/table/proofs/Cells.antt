@@ -5,23 +5,23 @@ use Prim.Native.Nat.{ℕ, ◌<◌}
 use native.Mathlib.Omega.{arith}
 use Rattle.table.specs.Table.{place_of, agrees, separates}
 
-pub place-fits : (t c : ℕ) → t < 24 → c < 61 → place_of t c < 1464
+pub place_fits : (t c : ℕ) → t < 24 → c < 61 → place_of t c < 1464
 unfolding place_of
-place-fits t c h k = omega arith
+place_fits t c h k = omega arith
 
 -- what `place` gives lies in the table
-pub place-below : (t c r : ℕ) → r ≡ place_of t c → t < 24 → c < 61 → r < 1464
-place-below t c r e h k = omega (arith, place-fits t c h k)
+pub place_below : (t c r : ℕ) → r ≡ place_of t c → t < 24 → c < 61 → r < 1464
+place_below t c r e h k = omega (arith, place_fits t c h k)
 
-pub place-test : (t c u d : ℕ) → t < 24 → c < 61 → u < 24 → d < 61 → place_of t c ≡ place_of u d → t ≡ u
+pub place_test : (t c u d : ℕ) → t < 24 → c < 61 → u < 24 → d < 61 → place_of t c ≡ place_of u d → t ≡ u
 unfolding place_of
-place-test t c u d h k l m e = omega arith
+place_test t c u d h k l m e = omega arith
 
-pub place-column : (t c u d : ℕ) → t < 24 → c < 61 → u < 24 → d < 61 → place_of t c ≡ place_of u d → c ≡ d
+pub place_column : (t c u d : ℕ) → t < 24 → c < 61 → u < 24 → d < 61 → place_of t c ≡ place_of u d → c ≡ d
 unfolding place_of
-place-column t c u d h k l m e = omega arith
+place_column t c u d h k l m e = omega arith
 
 -- the answer of a comparison, for whether the test separates
-pub separates-by : (out : ℕ → ℕ → ℕ) (a b t : ℕ) (r : Bool) → r ≡ agrees out a b t → not r ≡ separates out a b t
+pub separates_by : (out : ℕ → ℕ → ℕ) (a b t : ℕ) (r : Bool) → r ≡ agrees out a b t → not r ≡ separates out a b t
 unfolding separates
-separates-by out a b t r e = rw e
+separates_by out a b t r e = rw e

@@ -53,8 +53,8 @@ number_of BufferShort = 24
 number_of NotOneEach = 25
 
 -- "a cap above 24"
-abbrev pub capLimit : ℕ
-capLimit = 24
+abbrev pub cap_limit : ℕ
+cap_limit = 24
 
 -- ---- "An accepted call's number is 0." "A refused call returns the number with the empty set, list or count 0."
 
@@ -66,30 +66,30 @@ accept number a b = whether (eqb number 0) a b
 unfoldable pub unlisted : List ℕ
 unlisted = replicate 61 0
 
-abbrev pub verdictNumber : Verdict → ℕ
-verdictNumber verdict.Accepted = 0
-verdictNumber (verdict.Refused why) = number_of why
+abbrev pub verdict_number : Verdict → ℕ
+verdict_number verdict.Accepted = 0
+verdict_number (verdict.Refused why) = number_of why
 
-abbrev pub chosenNumber : Chosen → ℕ
-chosenNumber (chosen.Tests s) = 0
-chosenNumber (chosen.Refused why) = number_of why
+abbrev pub chosen_number : Chosen → ℕ
+chosen_number (chosen.Tests s) = 0
+chosen_number (chosen.Refused why) = number_of why
 
-abbrev pub chosenSet : Chosen → ℕ
-chosenSet (chosen.Tests s) = s
-chosenSet (chosen.Refused why) = 0
+abbrev pub chosen_set : Chosen → ℕ
+chosen_set (chosen.Tests s) = s
+chosen_set (chosen.Refused why) = 0
 
-abbrev pub faultsNumber : Faults → ℕ
-faultsNumber (faults.Set s) = 0
-faultsNumber (faults.Refused why) = number_of why
+abbrev pub faults_number : Faults → ℕ
+faults_number (faults.Set s) = 0
+faults_number (faults.Refused why) = number_of why
 
-abbrev pub faultsSet : Faults → ℕ
-faultsSet (faults.Set s) = s
-faultsSet (faults.Refused why) = 0
+abbrev pub faults_set : Faults → ℕ
+faults_set (faults.Set s) = s
+faults_set (faults.Refused why) = 0
 
-abbrev pub writtenNumber : Written → ℕ
-writtenNumber (written.Bytes n) = 0
-writtenNumber (written.Refused why) = number_of why
+abbrev pub written_number : Written → ℕ
+written_number (written.Bytes n) = 0
+written_number (written.Refused why) = number_of why
 
-abbrev pub writtenCount : Written → ℕ
-writtenCount (written.Bytes n) = n
-writtenCount (written.Refused why) = 0
+abbrev pub written_count : Written → ℕ
+written_count (written.Bytes n) = n
+written_count (written.Refused why) = 0

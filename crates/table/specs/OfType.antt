@@ -2,7 +2,7 @@
 -- Assumes nothing.
 use Rattle.std.specs.Prelude.{◌≡◌, ℕ, ◌<◌, length, get_or}
 use Rattle.table.specs.declared.Table.{Table}
-use Rattle.table.specs.Table.{line_of, stuckOf}
+use Rattle.table.specs.Table.{line_of, stuck_of}
 
 -- the arrays' lengths,
 pub record Long (tb : Table) : Type 0 where
@@ -13,6 +13,6 @@ pub record Long (tb : Table) : Type 0 where
 -- and bytes
 pub record OfType (tb : Table) : Type 0 where
   pub long : Long tb
-  pub cells-bytes : (i : ℕ) → get_or tb.cells i 0 < 256
-  pub lines-bytes : (f : ℕ) → line_of tb f < 256
-  pub stuck-bytes : (f : ℕ) → stuckOf tb f < 256
+  pub cells_bytes : (i : ℕ) → get_or tb.cells i 0 < 256
+  pub lines_bytes : (f : ℕ) → line_of tb f < 256
+  pub stuck_bytes : (f : ℕ) → stuck_of tb f < 256

@@ -12,8 +12,8 @@ unfoldable pub cell_at : List ℕ → ℕ → ℕ → ℕ
 cell_at cells t c = get_or cells (place_of t c) 0
 
 -- the output of test t in column c, of a table
-abbrev pub outputAt : Table → ℕ → ℕ → ℕ
-outputAt tb t c = cell_at tb.cells t c
+abbrev pub output_at : Table → ℕ → ℕ → ℕ
+output_at tb t c = cell_at tb.cells t c
 
 -- test t gives the columns a and b one output, where `out t c` is the output of test t in column c
 unfoldable pub agrees : (ℕ → ℕ → ℕ) → ℕ → ℕ → ℕ → Bool
@@ -31,15 +31,15 @@ columns tb = tb.faults + 1
 abbrev pub line_of : Table → ℕ → ℕ
 line_of tb f = get_or tb.lines f 0
 
-abbrev pub stuckOf : Table → ℕ → ℕ
-stuckOf tb f = get_or tb.stuck f 0
+abbrev pub stuck_of : Table → ℕ → ℕ
+stuck_of tb f = get_or tb.stuck f 0
 
 -- "A table has 1,464 cells, all zero in an empty table (24 rows of 61)."
-unfoldable pub emptyTable : Table
-emptyTable =
+unfoldable pub empty_table : Table
+empty_table =
     record { tests = 0; faults = 0; cells = replicate 1464 0; lines = replicate 60 0; stuck = replicate 60 0 }
 
 -- the table tb with these counts, cells and labels: whatever else it holds stays
-abbrev pub tableWith : Table → ℕ → ℕ → List ℕ → List ℕ → List ℕ → Table
-tableWith tb tests faults cells lines stuck =
+abbrev pub table_with : Table → ℕ → ℕ → List ℕ → List ℕ → List ℕ → Table
+table_with tb tests faults cells lines stuck =
     record { tests = tests; faults = faults; cells = cells; lines = lines; stuck = stuck }

@@ -1,12 +1,12 @@
 // The clauses of a well-formed table, each as a test.
 ghost use Rattle.std.specs.Prelude.{◌≡◌, ◌≤◌, ◌<◌};
 ghost use Rattle.folds.specs.Fold.{every};
-ghost use Rattle.table.specs.Form.{labelRight, cellRight, rowRight};
+ghost use Rattle.table.specs.Form.{label_right, cell_right, row_right};
 
 // Whether the label f is a new fault's, with a stuck value of 0 or 1; or zero, where f is no fault.
 fn label_right<'a>(lines: &'a [u8; 60], stuck: &'a [u8; 60], faults: usize, f: usize) -> bool
     requires { f < 60 }
-    ensures { result ≡ labelRight lines.now stuck.now faults f }
+    ensures { result ≡ label_right lines.now stuck.now faults f }
 {
     if faults <= f {
         if lines[f] != 0 {
@@ -21,7 +21,7 @@ fn label_right<'a>(lines: &'a [u8; 60], stuck: &'a [u8; 60], faults: usize, f: u
 }
 
 pub fn labels_right<'a>(lines: &'a [u8; 60], stuck: &'a [u8; 60], faults: usize) -> bool
-    ensures { result ≡ every (labelRight lines.now stuck.now faults) 60 }
+    ensures { result ≡ every (label_right lines.now stuck.now faults) 60 }
 {
     let mut i = 0;
     while i < 60 {
@@ -36,7 +36,7 @@ pub fn labels_right<'a>(lines: &'a [u8; 60], stuck: &'a [u8; 60], faults: usize)
 // Whether the cell of test t in column c is used, or zero.
 fn cell_right(cells: &[u8; 1464], tests: usize, faults: usize, t: usize, c: usize) -> bool
     requires { (t < 24) × (c < 61) }
-    ensures { result ≡ cellRight cells.now tests faults t c }
+    ensures { result ≡ cell_right cells.now tests faults t c }
 {
     let output = crate::inner::cell(cells, t, c);
     if tests <= t {
@@ -50,7 +50,7 @@ fn cell_right(cells: &[u8; 1464], tests: usize, faults: usize, t: usize, c: usiz
 
 fn row_right(cells: &[u8; 1464], tests: usize, faults: usize, t: usize) -> bool
     requires { t < 24 }
-    ensures { result ≡ rowRight cells.now tests faults t }
+    ensures { result ≡ row_right cells.now tests faults t }
 {
     let mut i = 0;
     while i < 61 {
@@ -63,7 +63,7 @@ fn row_right(cells: &[u8; 1464], tests: usize, faults: usize, t: usize) -> bool
 }
 
 pub fn rows_right(cells: &[u8; 1464], tests: usize, faults: usize) -> bool
-    ensures { result ≡ every (rowRight cells.now tests faults) 24 }
+    ensures { result ≡ every (row_right cells.now tests faults) 24 }
 {
     let mut i = 0;
     while i < 24 {

@@ -1,7 +1,7 @@
 // Cells and labels, for the crates above.
 ghost use Rattle.std.specs.Prelude.{◌≡◌, ◌≤◌, ◌<◌};
 ghost use Rattle.table.specs.Table.{place_of, cell_at, agrees};
-ghost use Rattle.table.specs.Form.{otherLabel, newLabel};
+ghost use Rattle.table.specs.Form.{other_label, new_label};
 
 // A byte as a number.
 pub fn wide(byte: u8) -> usize
@@ -38,7 +38,7 @@ pub fn agrees(cells: &[u8; 1464], a: usize, b: usize, t: usize) -> bool
 // Whether fault f has another line or another stuck value.
 fn other_label<'a>(lines: &'a [u8; 60], stuck: &'a [u8; 60], line: u8, value: u8, f: usize) -> bool
     requires { f < 60 }
-    ensures { result ≡ otherLabel lines.now stuck.now line value f }
+    ensures { result ≡ other_label lines.now stuck.now line value f }
 {
     if lines[f] != line {
         return true;
@@ -55,7 +55,7 @@ pub fn new_label<'a>(
     value: u8,
 ) -> bool
     requires { n ≤ 60 }
-    ensures { result ≡ newLabel lines.now stuck.now n line value }
+    ensures { result ≡ new_label lines.now stuck.now n line value }
 {
     let mut f = 0;
     while f < n {

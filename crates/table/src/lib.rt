@@ -1,7 +1,7 @@
 // The fault table by value, and the answers of every call.
 ghost use Rattle.std.specs.Prelude.{◌≡◌};
 ghost use Rattle.table.specs.Answers.{number_of};
-ghost use Rattle.table.specs.Table.{emptyTable};
+ghost use Rattle.table.specs.Table.{empty_table};
 ghost use Rattle.table.specs.WellFormed.{Tested};
 
 mod form;
@@ -99,7 +99,7 @@ pub struct Suspects {
 }
 
 pub fn empty_table() -> Table
-    ensures { result ≡ emptyTable }
+    ensures { result ≡ empty_table }
 {
     Table {
         tests: 0,

@@ -7,8 +7,8 @@ use Rattle.table.specs.declared.Table.{Table}
 use Rattle.terms.specs.Terms.{TestOf, Reaches}
 
 -- what each test of a table weighs: 1, so that the lightest sets are the smallest
-abbrev pub testWeight : Table → ℕ → ℕ
-testWeight tb = one
+abbrev pub test_weight : Table → ℕ → ℕ
+test_weight tb = one
 
 -- "The choice is the first, in that order, of the smallest sets that separate every goal pair.": of the lightest, where w gives
 -- each test its weight.
@@ -21,4 +21,4 @@ pub record IsChoice (w : ℕ → ℕ) (tb : Table) (goal : Goal) (allowed : ℕ 
 
 -- the choice of a table and a goal: every test of the table may be chosen
 abbrev pub Choice : Table → Goal → ℕ → Type 0
-Choice tb goal s = IsChoice (testWeight tb) tb goal (TestOf tb) s
+Choice tb goal s = IsChoice (test_weight tb) tb goal (TestOf tb) s

@@ -1,5 +1,5 @@
 -- What is computed of outputs: which columns are alike, their classes, their signatures. `out t c` is the output of test t
--- in column c; a table's is `outputAt tb`. The sentences are document 01's.
+-- in column c; a table's is `output_at tb`. The sentences are document 01's.
 -- Assumes nothing.
 use Rattle.std.specs.Prelude.{Bool, not, List, ℕ}
 use Rattle.folds.specs.Fold.{every, count, first, gather}

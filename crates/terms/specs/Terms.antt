@@ -3,7 +3,7 @@
 use Rattle.std.specs.Prelude.{List, ◌⊎◌, ◌≡◌, ℕ, ◌+◌, ◌≤◌, ◌<◌}
 use Rattle.folds.specs.Fold.{count}
 use Rattle.sets.specs.Sets.{bit}
-use Rattle.table.specs.Table.{outputAt, columns}
+use Rattle.table.specs.Table.{output_at, columns}
 use Rattle.table.specs.declared.Goal.{Goal}
 use Rattle.table.specs.declared.Goal.TheVariants.{Detect, Diagnose}
 use Rattle.table.specs.declared.Table.{Table}
@@ -15,7 +15,7 @@ TestOf tb t = t < tb.tests
 
 -- "A test separates two columns when their outputs differ."
 abbrev pub Separates : Table → ℕ → ℕ → ℕ → Type 0
-Separates tb t a b = outputAt tb t a ≡ outputAt tb t b → ⊥
+Separates tb t a b = output_at tb t a ≡ output_at tb t b → ⊥
 
 -- "A set separates them when one of its tests does."
 abbrev pub SeparatedBy : Table → ℕ → ℕ → ℕ → Type 0
@@ -23,7 +23,7 @@ SeparatedBy tb s a b = (t : ℕ) × TestOf tb t × (bit s t ≡ 1) × Separates 
 
 -- "The signature of a column under a set is its outputs in rising test number."
 abbrev pub signature : Table → ℕ → ℕ → List ℕ
-signature tb s c = outputsUnder (outputAt tb) tb.tests s c
+signature tb s c = outputsUnder (output_at tb) tb.tests s c
 
 -- "Columns that no test separates form a class."
 abbrev pub Alike : Table → ℕ → ℕ → Type 0
@@ -35,10 +35,10 @@ Undetectable tb f = Alike tb 0 (f + 1)
 
 -- "Classes are numbered by their lowest column."
 abbrev pub class_of : Table → ℕ → ℕ
-class_of tb c = classNumber (outputAt tb) tb.tests c
+class_of tb c = classNumber (output_at tb) tb.tests c
 
-abbrev pub classCount : Table → ℕ
-classCount tb = count (lowest (outputAt tb) tb.tests) (columns tb)
+abbrev pub class_count : Table → ℕ
+class_count tb = count (lowest (output_at tb) tb.tests) (columns tb)
 
 -- "Goal pairs. Detect: column 0 with each fault. Diagnose: every two columns." The lower column stands first.
 abbrev pub GoalPair : Goal → Table → ℕ → ℕ → Type 0

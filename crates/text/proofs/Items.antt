@@ -7,7 +7,7 @@ use native.Mathlib.Nat.{le_antisymm}
 use Rattle.folds.specs.Fold.{always, joined}
 use Rattle.folds.proofs.Joined.{joined-no, joined-none, joined-yes}
 use Rattle.text.specs.Writes.{Writes}
-use Rattle.text.proofs.Writes.{writes_nothing, writes_then, writes-length}
+use Rattle.text.proofs.Writes.{writes_nothing, writes_then, writes_length}
 
 module _ (p : ℕ → Bool) (g : ℕ → List ℕ) (at : ℕ) (b₀ : List ℕ) where
   pub items-start : Writes at (joined p g 0) b₀ at b₀
@@ -24,8 +24,8 @@ module _ (p : ℕ → Bool) (g : ℕ → List ℕ) (at : ℕ) (b₀ : List ℕ) 
   items-end i m n b h k v = subst (λ (x : ℕ). Writes at (joined p g x) b₀ n b) (le_antisymm h k) v
 
 -- a piece for every number
-pub items-each : (g : ℕ → List ℕ) (at i n m : ℕ) (b₀ b d : List ℕ) → Writes at (joined always g i) b₀ n b → Writes n (g i) b m d → Writes at (joined always g (i + 1)) b₀ m d
+pub items_each : (g : ℕ → List ℕ) (at i n m : ℕ) (b₀ b d : List ℕ) → Writes at (joined always g i) b₀ n b → Writes n (g i) b m d → Writes at (joined always g (i + 1)) b₀ m d
 unfolding always
-items-each g at i n m b₀ b d v w = items-put always g at b₀ i n m m true b d d v refl refl w refl refl
+items_each g at i n m b₀ b d v w = items-put always g at b₀ i n m m true b d d v refl refl w refl refl
 
-pub ruleset items = (items-start, items-put, items-each, items-pass, items-end, writes-length)
+pub ruleset items = (items-start, items-put, items_each, items-pass, items-end, writes_length)

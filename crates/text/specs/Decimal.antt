@@ -8,5 +8,5 @@ digits zero n = []
 digits (suc k) n = whether (ltb n 10) ((48 + n) ∷ []) (digits k (n / 10) ++ ((48 + n % 10) ∷ []))
 
 -- n as a plain decimal: it has no more than n + 1 digits
-unfoldable pub decimalOf : ℕ → List ℕ
-decimalOf n = digits (suc n) n
+unfoldable pub decimal_of : ℕ → List ℕ
+decimal_of n = digits (suc n) n

@@ -1,6 +1,6 @@
 // Each call writes a piece at a place and gives the place behind it. What lies past the buffer's end is left out.
 ghost use Rattle.std.specs.Prelude.{[], ◌∷◌};
-ghost use Rattle.text.specs.Decimal.{decimalOf};
+ghost use Rattle.text.specs.Decimal.{decimal_of};
 ghost use Rattle.text.specs.Writes.{Writes};
 
 pub fn put(buf: &mut [u8], at: usize, byte: u8) -> usize
@@ -26,7 +26,7 @@ pub fn word(buf: &mut [u8], at: usize, bytes: &[u8]) -> usize
 }
 
 pub fn decimal(buf: &mut [u8], at: usize, n: usize) -> usize
-    ensures { Writes at (decimalOf n) buf.old result buf.new }
+    ensures { Writes at (decimal_of n) buf.old result buf.new }
 {
     if n < 10 {
         return put(buf, at, (48 + n) as u8);

@@ -12,30 +12,30 @@ use lib.Dec.{ltb}
 use lib.ListN.{length, get_or, drop}
 use lib.Seq.{get_or-drop, get_or-take}
 use Rattle.folds.specs.Fold.{whether, count}
-use Rattle.folds.proofs.Below.{lt-or-ge, eq-or-ne}
+use Rattle.folds.proofs.Below.{lt_or_ge, eq_or_ne}
 use Rattle.folds.proofs.Bools.{both_true, both_left, both_right, clash}
-use Rattle.folds.proofs.Count.{count_yes, count-mono, count_less}
-use Rattle.folds.proofs.First.{first_below, first-has, first-le, first-same}
+use Rattle.folds.proofs.Count.{count_yes, count_mono, count_less}
+use Rattle.folds.proofs.First.{first_below, first_has, first_le, first_same}
 use Rattle.folds.proofs.Joined.{joined-part, joined-mono, rows_at}
-use Rattle.folds.proofs.Gather.{gather-length, gather-get}
+use Rattle.folds.proofs.Gather.{gather-length, gather_get}
 use Rattle.sets.specs.Sets.{has}
-use Rattle.table.specs.Table.{outputAt, columns, agrees, separates}
+use Rattle.table.specs.Table.{output_at, columns, agrees, separates}
 use Rattle.table.specs.WellFormed.{WellFormed}
 use Rattle.table.specs.declared.Table.{Table}
 use Rattle.table.specs.declared.Written.TheVariants.{Bytes}
 use Rattle.terms.specs.Columns.{alike, lowest, lowestOf, classNumber, outputsUnder}
-use Rattle.terms.specs.Terms.{class_of, classCount}
-use Rattle.terms_laws.proofs.Classes.{alike_at, alike-sym, lowest-le, lowest-alike, lowest-of, class-lowest, few-classes, signature-of, signature_at}
-use Rattle.asks.specs.Asks.{setAsks}
+use Rattle.terms.specs.Terms.{class_of, class_count}
+use Rattle.terms_laws.proofs.Classes.{alike_at, alike-sym, lowest-le, lowest-alike, lowest-of, class-lowest, few_classes, signature-of, signature_at}
+use Rattle.asks.specs.Asks.{set_asks}
 use Rattle.lent.specs.Lent.{WritesOnto}
 use Rattle.lent.proofs.Lent.{writes_byte}
-use Rattle.witness.specs.Witness.{separatesIn, lowestTest, witnessOf, above, witnesses, sheetUnder, sheetOf}
+use Rattle.witness.specs.Witness.{separatesIn, lowestTest, witnessOf, above, witnesses, sheetUnder, sheet_of}
 use Rattle.witness.proofs.Rows.{witness-found, witness-none, above-count}
 use Rattle.witness.proofs.Size.{rows_to, rows-sum, sheet-size}
 
 -- the bytes before the row of class i of k, from twice their number
-row-place : (i k sum : ℕ) → 2 * sum + (i * i + i) ≡ 2 * (i * k) → sum ≡ i * (2 * k - i - 1) / 2
-row-place i k sum h =
+row_place : (i k sum : ℕ) → 2 * sum + (i * i + i) ≡ 2 * (i * k) → sum ≡ i * (2 * k - i - 1) / 2
+row_place i k sum h =
     let a : 2 * k - i - 1 ≡ 2 * k - (i + 1) = omega arith in
     let b : i * (2 * k - (i + 1)) ≡ i * (2 * k) - (i * i + i) = mul-sub i (2 * k) (i + 1) ∙ rw (mul-add i i 1, mul-one) in
     let c : i * (2 * k) ≡ 2 * (i * k) = mul_left_comm i 2 k in
@@ -60,14 +60,14 @@ module _ (out : ℕ → ℕ → ℕ) (tests s : ℕ) where
   pub witness-same : (a b c d : ℕ) → alike out tests a c ≡ true → alike out tests b d ≡ true → witnessOf out tests s a b ≡ witnessOf out tests s c d
   unfolding witnessOf separatesIn separates agrees
   witness-same a b c d h k =
-      let e : lowestTest out tests s a b ≡ lowestTest out tests s c d = first-same _ _ tests (λ t w. rw (alike_at out tests a c t h w, alike_at out tests b d t k w)) in
+      let e : lowestTest out tests s a b ≡ lowestTest out tests s c d = first_same _ _ tests (λ t w. rw (alike_at out tests a c t h w, alike_at out tests b d t k w)) in
       ap (λ (m : ℕ). whether (ltb m tests) m 255) e
 
   low-witness : (a b : ℕ) → lowestTest out tests s a b < tests → witnessOf out tests s a b ≡ lowestTest out tests s a b
   low-witness a b w = sym (witness-found out tests s a b _ refl w)
 
   no-witness : (a b : ℕ) → tests ≤ lowestTest out tests s a b → witnessOf out tests s a b ≡ 255
-  no-witness a b w = sym (witness-none out tests s a b (le_antisymm w (first-le (separatesIn out s a b) tests)))
+  no-witness a b w = sym (witness-none out tests s a b (le_antisymm w (first_le (separatesIn out s a b) tests)))
 
   -- test t is the first test of the set in which the signatures of the columns a and b differ
   pub record FirstIn (t a b : ℕ) : Type 0 where
@@ -79,35 +79,35 @@ module _ (out : ℕ → ℕ → ℕ) (tests s : ℕ) where
   -- before the lowest test that separates two columns they agree
   agree-before : (a b t : ℕ) → t < lowestTest out tests s a b → has s t ≡ true → out t a ≡ out t b
   agree-before a b t w h =
-      ⊎_elim (λ e. e) (λ n. clash _ (separates-yes a b t h n) (first_below (separatesIn out s a b) tests t w)) (eq-or-ne (out t a) (out t b))
+      ⊎_elim (λ e. e) (λ n. clash _ (separates-yes a b t h n) (first_below (separatesIn out s a b) tests t w)) (eq_or_ne (out t a) (out t b))
 
   -- 255 stands exactly where the signatures are equal
   pub equal-none : (a b : ℕ) → outputsUnder out tests s a ≡ outputsUnder out tests s b → witnessOf out tests s a b ≡ 255
   equal-none a b e = ⊎_elim
       (λ (w : lowestTest out tests s a b < tests).
-      let h = first-has (separatesIn out s a b) tests w in
+      let h = first_has (separatesIn out s a b) tests w in
       absurd (separates-differ a b _ h (signature_at out tests s a b _ e w (separates-has a b _ h))))
       (no-witness a b)
-      (lt-or-ge (lowestTest out tests s a b) tests)
+      (lt_or_ge (lowestTest out tests s a b) tests)
 
   module _ (few : tests ≤ 24) where
     pub none_equal : (a b : ℕ) → witnessOf out tests s a b ≡ 255 → outputsUnder out tests s a ≡ outputsUnder out tests s b
     none_equal a b e = ⊎_elim
         (λ w. absurd (omega (arith, low-witness a b w)))
         (λ w. signature-of out tests s a b (λ t l h. agree-before a b t (omega arith) h))
-        (lt-or-ge (lowestTest out tests s a b) tests)
+        (lt_or_ge (lowestTest out tests s a b) tests)
 
     -- any other witness is the first test of the set in which the signatures differ
     pub witness-first : (a b : ℕ) → (witnessOf out tests s a b ≡ 255 → ⊥) → FirstIn (witnessOf out tests s a b) a b
     witness-first a b n = ⊎_elim
-        (λ w. let h = first-has (separatesIn out s a b) tests w in rw (low-witness a b w) (record {
+        (λ w. let h = first_has (separatesIn out s a b) tests w in rw (low-witness a b w) (record {
           test = w;
           held = separates-has a b _ h;
           differ = separates-differ a b _ h;
           agree = λ u v q. agree-before a b u v q;
         }))
         (λ w. absurd (n (no-witness a b w)))
-        (lt-or-ge (lowestTest out tests s a b) tests)
+        (lt_or_ge (lowestTest out tests s a b) tests)
 
   -- ---- where it stands
 
@@ -130,7 +130,7 @@ module _ (out : ℕ → ℕ → ℕ) (tests s : ℕ) where
     lowest-place a b l w h k =
         in_row a (count (above out tests a) b) (omega arith) h
         (omega (arith, gather-length (above out tests a) (witnessOf out tests s a) n, count_less (above out tests a) b n w (is-above a b l k)))
-        ∙ gather-get (above out tests a) (witnessOf out tests s a) n b w (is-above a b l k)
+        ∙ gather_get (above out tests a) (witnessOf out tests s a) n b w (is-above a b l k)
 
     below-sheet : (a b : ℕ) → a < b → b < n → lowest out tests a ≡ true → lowest out tests b ≡ true
         → rows_to out tests s n a + count (above out tests a) b < length (sheetUnder out tests s n)
@@ -146,8 +146,8 @@ module _ (out : ℕ → ℕ → ℕ) (tests s : ℕ) where
     lower : (c d : ℕ) → classNumber out tests c < classNumber out tests d → lowestOf out tests c < lowestOf out tests d
     lower c d w = ⊎_elim
         (λ l. l)
-        (λ l. absurd (omega (arith, class-lowest out tests c, class-lowest out tests d, count-mono (lowest out tests) (lowestOf out tests d) (lowestOf out tests c) l)))
-        (lt-or-ge (lowestOf out tests c) (lowestOf out tests d))
+        (λ l. absurd (omega (arith, class-lowest out tests c, class-lowest out tests d, count_mono (lowest out tests) (lowestOf out tests d) (lowestOf out tests c) l)))
+        (lt_or_ge (lowestOf out tests c) (lowestOf out tests d))
 
     module _ (c d i j k : ℕ) (w : d < n) (ei : i ≡ classNumber out tests c) (ej : j ≡ classNumber out tests d) (ek : k ≡ count (lowest out tests) n) (l : i < j) where
       lower-lowest : lowestOf out tests c < lowestOf out tests d
@@ -161,7 +161,7 @@ module _ (out : ℕ → ℕ → ℕ) (tests s : ℕ) where
           let a : ℕ = lowestOf out tests c in
           let fi : i ≡ count (lowest out tests) a = ei ∙ class-lowest out tests c in
           let fj : j ≡ count (lowest out tests) (lowestOf out tests d) = ej ∙ class-lowest out tests d in
-          let p : rows_to out tests s n a ≡ i * (2 * k - i - 1) / 2 = row-place i k (rows_to out tests s n a) (rw (fi, ek) (rows-sum out tests s n a (omega (arith, lower-lowest, lowest-below)))) in
+          let p : rows_to out tests s n a ≡ i * (2 * k - i - 1) / 2 = row_place i k (rows_to out tests s n a) (rw (fi, ek) (rows-sum out tests s n a (omega (arith, lower-lowest, lowest-below)))) in
           omega (arith, p, above-count out tests a (lowestOf out tests d) lower-lowest, count_yes (lowest out tests) a (lowest-of out tests c))
 
       -- the witness of the classes i < j of k stands at i (2 k - i - 1) / 2 + j - i - 1
@@ -170,30 +170,30 @@ module _ (out : ℕ → ℕ → ℕ) (tests s : ℕ) where
           rw (← place_is) (lowest-place (lowestOf out tests c) (lowestOf out tests d) lower-lowest lowest-below (lowest-of out tests c) (lowest-of out tests d))
           ∙ witness-same _ _ c d (alike-sym out tests c _ (lowest-alike out tests c)) (alike-sym out tests d _ (lowest-alike out tests d))
 
-      pub place-below : i * (2 * k - i - 1) / 2 + (j - i - 1) < length (sheetUnder out tests s n)
-      place-below = rw (← place_is) (below-sheet (lowestOf out tests c) (lowestOf out tests d) lower-lowest lowest-below (lowest-of out tests c) (lowest-of out tests d))
+      pub place_below : i * (2 * k - i - 1) / 2 + (j - i - 1) < length (sheetUnder out tests s n)
+      place_below = rw (← place_is) (below-sheet (lowestOf out tests c) (lowestOf out tests d) lower-lowest lowest-below (lowest-of out tests c) (lowest-of out tests d))
 
 -- ---- the sheet of a table
 
-pub sheet-length : (tb : Table) (s : ℕ) → length (sheetOf tb s) ≡ classCount tb * (classCount tb - 1) / 2
-sheet-length tb s = sym (sheet-size (outputAt tb) tb.tests s (columns tb) (classCount tb) refl)
+pub sheet_length : (tb : Table) (s : ℕ) → length (sheet_of tb s) ≡ class_count tb * (class_count tb - 1) / 2
+sheet_length tb s = sym (sheet-size (output_at tb) tb.tests s (columns tb) (class_count tb) refl)
 
 -- which is no more than 61 times 60, halved
-pub sheet-most : (tb : Table) → WellFormed tb → (s : ℕ) → length (sheetOf tb s) ≤ 1830
-sheet-most tb w s =
-    let lower : classCount tb - 1 ≤ 60 = omega (arith, few-classes tb w) in
-    omega (arith, sheet-length tb s, mul-le-mul (few-classes tb w) lower)
+pub sheet_most : (tb : Table) → WellFormed tb → (s : ℕ) → length (sheet_of tb s) ≤ 1830
+sheet_most tb w s =
+    let lower : class_count tb - 1 ≤ 60 = omega (arith, few_classes tb w) in
+    omega (arith, sheet_length tb s, mul-le-mul (few_classes tb w) lower)
 
 -- where the witness of the classes of the columns c and d stands
-abbrev pub witnessPlace : Table → ℕ → ℕ → ℕ
-witnessPlace tb c d = class_of tb c * (2 * classCount tb - class_of tb c - 1) / 2 + (class_of tb d - class_of tb c - 1)
+abbrev pub witness_place : Table → ℕ → ℕ → ℕ
+witness_place tb c d = class_of tb c * (2 * class_count tb - class_of tb c - 1) / 2 + (class_of tb d - class_of tb c - 1)
 
 module _ (tb : Table) (s c d : ℕ) (w : d < columns tb) (l : class_of tb c < class_of tb d) where
-  pub sheet-place : get_or (sheetOf tb s) (witnessPlace tb c d) 0 ≡ witnessOf (outputAt tb) tb.tests s c d
-  sheet-place = witness-place (outputAt tb) tb.tests s (columns tb) c d _ _ _ w refl refl refl l
+  pub sheet-place : get_or (sheet_of tb s) (witness_place tb c d) 0 ≡ witnessOf (output_at tb) tb.tests s c d
+  sheet-place = witness-place (output_at tb) tb.tests s (columns tb) c d _ _ _ w refl refl refl l
 
   -- and so it stands in the buffer that an accepted call leaves
-  pub written-witness : (n : ℕ) (b e : List ℕ) → WritesOnto (setAsks tb s) (sheetOf tb s) b (Bytes n) e → get_or e (witnessPlace tb c d) 0 ≡ witnessOf (outputAt tb) tb.tests s c d
+  pub written-witness : (n : ℕ) (b e : List ℕ) → WritesOnto (set_asks tb s) (sheet_of tb s) b (Bytes n) e → get_or e (witness_place tb c d) 0 ≡ witnessOf (output_at tb) tb.tests s c d
   written-witness n b e a =
-      writes_byte (setAsks tb s) (sheetOf tb s) b n e a (witnessPlace tb c d) (place-below (outputAt tb) tb.tests s (columns tb) c d _ _ _ w refl refl refl l)
+      writes_byte (set_asks tb s) (sheet_of tb s) b n e a (witness_place tb c d) (place_below (output_at tb) tb.tests s (columns tb) c d _ _ _ w refl refl refl l)
       ∙ sheet-place

@@ -8,15 +8,15 @@ use native.Mathlib.Omega.{arith}
 use borrow.Author.Tests.{lt-ltb, le-ltb}
 use lib.ListN.{length}
 use Rattle.folds.specs.Fold.{count}
-use Rattle.folds.proofs.Below.{below-cases}
-use Rattle.folds.proofs.Count.{count_none, count-more, count_yes, count_no, count_less}
+use Rattle.folds.proofs.Below.{below_cases}
+use Rattle.folds.proofs.Count.{count_none, count_more, count_yes, count_no, count_less}
 use Rattle.folds.proofs.Gather.{gather-length}
 use Rattle.sets.specs.Sets.{has}
-use Rattle.sets.specs.Collect.{setOf}
+use Rattle.sets.specs.Collect.{set_of}
 use Rattle.sets.proofs.Collect.{set_tells}
 use Rattle.terms.specs.Columns.{lowest}
 use Rattle.witness.specs.Witness.{lowestTest, witnessOf, above, witnesses}
-use Rattle.witness.specs.Inner.{aboveIn}
+use Rattle.witness.specs.Inner.{above_in}
 
 module _ (out : ℕ → ℕ → ℕ) (tests : ℕ) where
   -- ---- the answers of `witness`
@@ -31,11 +31,11 @@ module _ (out : ℕ → ℕ → ℕ) (tests : ℕ) where
 
   -- ---- the set of the lowest columns answers for them
 
-  pub low-in : (n lows i : ℕ) (r : Bool) → lows ≡ setOf (lowest out tests) n → i < n → r ≡ has lows i → r ≡ lowest out tests i
+  pub low-in : (n lows i : ℕ) (r : Bool) → lows ≡ set_of (lowest out tests) n → i < n → r ≡ has lows i → r ≡ lowest out tests i
   low-in n lows i r e w h = h ∙ rw e (set_tells (lowest out tests) n i w)
 
-  pub above_in : (n lows a i : ℕ) (r : Bool) → lows ≡ setOf (lowest out tests) n → i < n → r ≡ aboveIn lows a i → r ≡ above out tests a i
-  unfolding aboveIn above
+  pub above_in : (n lows a i : ℕ) (r : Bool) → lows ≡ set_of (lowest out tests) n → i < n → r ≡ above_in lows a i → r ≡ above out tests a i
+  unfolding above_in above
   above_in n lows a i r e w h = h ∙ rw (e, set_tells (lowest out tests) n i w)
 
   -- ---- how many classes are above that of column a
@@ -60,9 +60,9 @@ module _ (out : ℕ → ℕ → ℕ) (tests : ℕ) where
       let p : count (above out tests a) (n + 1) ≡ count (above out tests a) (suc n) = ap (count (above out tests a)) (add-one n) in
       let q : count (lowest out tests) (n + 1) ≡ count (lowest out tests) (suc n) = ap (count (lowest out tests)) (add-one n) in
       ⊎_elim
-      (λ v. omega (arith, above-count a n v, rw (above-yes a n v) at (count-more (above out tests a) n), count-more (lowest out tests) n))
+      (λ v. omega (arith, above-count a n v, rw (above-yes a n v) at (count_more (above out tests a) n), count_more (lowest out tests) n))
       (λ (e : a ≡ n). let r : a + 1 ≡ suc n = omega arith in omega (arith, above_low a (suc n) (omega arith), ap (count (lowest out tests)) r))
-      (below-cases a n w)
+      (below_cases a n w)
 
   module _ (s n : ℕ) where
     -- with the classes up to its own a row makes up all of them

@@ -10,7 +10,7 @@ use lib.ListN.{length}
 use mir.Syntax.{w64}
 use mir.Val.{Fits}
 use Rattle.folds.specs.Fold.{count, joined}
-use Rattle.folds.proofs.Count.{count_none, count_yes, count_no, count_less, count-le}
+use Rattle.folds.proofs.Count.{count_none, count_yes, count_no, count_less, count_le}
 use Rattle.folds.proofs.Joined.{joined-none, rows_at, rows_stay}
 use Rattle.table.specs.Table.{cell_at}
 use Rattle.table.specs.declared.Table.{Table}
@@ -66,12 +66,12 @@ module _ (out : ℕ → ℕ → ℕ) (tests s n : ℕ) where
   sheet-fits k room e h = rw (← sheet-size k e) h
 
 -- there is a class at least, that of column 0
-pub some-class : (out : ℕ → ℕ → ℕ) (tests f k : ℕ) → k ≡ count (lowest out tests) (f + 1) → 1 ≤ k
-some-class out tests f k e = omega (arith, count_less (lowest out tests) 0 (f + 1) (omega arith) (lowest-zero out tests))
+pub some_class : (out : ℕ → ℕ → ℕ) (tests f k : ℕ) → k ≡ count (lowest out tests) (f + 1) → 1 ≤ k
+some_class out tests f k e = omega (arith, count_less (lowest out tests) 0 (f + 1) (omega arith) (lowest-zero out tests))
 
 -- how many bytes they are fits
-pub pairs-fit : (tb : Table) (k : ℕ) → tb.faults + 1 ≤ 61 → k ≡ count (lowest (cell_at tb.cells) tb.tests) (tb.faults + 1) → Fits w64 (k * (k - 1))
-pairs-fit tb k c e =
-    let a : k ≤ 61 = omega (arith, count-le (lowest (cell_at tb.cells) tb.tests) (tb.faults + 1)) in
+pub pairs_fit : (tb : Table) (k : ℕ) → tb.faults + 1 ≤ 61 → k ≡ count (lowest (cell_at tb.cells) tb.tests) (tb.faults + 1) → Fits w64 (k * (k - 1))
+pairs_fit tb k c e =
+    let a : k ≤ 61 = omega (arith, count_le (lowest (cell_at tb.cells) tb.tests) (tb.faults + 1)) in
     let b : k - 1 ≤ 61 = omega arith in
     record { fits = lt_of_le_of_lt (mul-le-mul a b) (lit< tt) }

@@ -5,5 +5,5 @@ use Rattle.folds.specs.Fold.{both}
 use Rattle.sets.specs.Sets.{has}
 
 -- column b is in the set, and above column a
-unfoldable pub aboveIn : ℕ → ℕ → ℕ → Bool
-aboveIn set a b = both (ltb a b) (has set b)
+unfoldable pub above_in : ℕ → ℕ → ℕ → Bool
+above_in set a b = both (ltb a b) (has set b)

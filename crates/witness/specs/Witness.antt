@@ -3,7 +3,7 @@
 use Rattle.std.specs.Prelude.{Bool, List, ℕ, ltb}
 use Rattle.folds.specs.Fold.{whether, both, first, gather, joined}
 use Rattle.sets.specs.Sets.{has}
-use Rattle.table.specs.Table.{outputAt, columns, separates}
+use Rattle.table.specs.Table.{output_at, columns, separates}
 use Rattle.table.specs.declared.Table.{Table}
 use Rattle.terms.specs.Columns.{lowest}
 
@@ -33,5 +33,5 @@ module _ (out : ℕ → ℕ → ℕ) where
     abbrev pub sheetUnder : ℕ → ℕ → List ℕ
     sheetUnder s n = joined (lowest out tests) (witnesses s n) n
 
-abbrev pub sheetOf : Table → ℕ → List ℕ
-sheetOf tb s = sheetUnder (outputAt tb) tb.tests s (columns tb)
+abbrev pub sheet_of : Table → ℕ → List ℕ
+sheet_of tb s = sheetUnder (output_at tb) tb.tests s (columns tb)

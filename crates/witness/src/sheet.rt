@@ -3,9 +3,9 @@ ghost use Rattle.std.specs.Prelude.{◌≡◌, ◌≤◌, ◌<◌, length};
 ghost use Rattle.folds.specs.Fold.{count, onto};
 ghost use Rattle.table.specs.Table.{cell_at};
 ghost use Rattle.terms.specs.Columns.{lowest};
-ghost use Rattle.sets.specs.Collect.{setOf};
+ghost use Rattle.sets.specs.Collect.{set_of};
 ghost use Rattle.witness.specs.Witness.{separatesIn, witnessOf, above, witnesses, sheetUnder};
-ghost use Rattle.witness.specs.Inner.{aboveIn};
+ghost use Rattle.witness.specs.Inner.{above_in};
 
 // Whether test t is in the set and separates the columns a and b.
 fn separates_in(cells: &[u8; 1464], set: u32, a: usize, b: usize, t: usize) -> bool
@@ -36,7 +36,7 @@ fn witness(cells: &[u8; 1464], tests: usize, set: u32, a: usize, b: usize) -> u8
 // Whether column b is one of lows, the lowest columns, and above column a.
 fn above(lows: u64, a: usize, b: usize) -> bool
     requires { b < 64 }
-    ensures { result ≡ aboveIn lows a b }
+    ensures { result ≡ above_in lows a b }
 {
     if b <= a {
         return false;
@@ -54,7 +54,7 @@ fn write_row(
     a: usize,
     row: &mut [u8],
 )
-    requires { (tests ≤ 24) × (columns ≤ 61) × (lows ≡ setOf (lowest (cell_at cells.now) tests) columns) × (a < 61) × (length row.old ≡ count (above (cell_at cells.now) tests a) columns) }
+    requires { (tests ≤ 24) × (columns ≤ 61) × (lows ≡ set_of (lowest (cell_at cells.now) tests) columns) × (a < 61) × (length row.old ≡ count (above (cell_at cells.now) tests a) columns) }
     ensures { row.new ≡ witnesses (cell_at cells.now) tests set columns a }
 {
     let mut j = 0;

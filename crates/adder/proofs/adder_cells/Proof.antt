@@ -3,8 +3,8 @@ use Prim.Native.Nat.{◌≤◌, ◌-◌}
 use native.Mathlib.Omega.{arith}
 use borrow.Author.Rules.{rules}
 use Rattle.adder.specs.Filling.{responded}
-use Rattle.adder.proofs.Fill.{response-test, response-fault, responses-start, responses-store, responses-end}
-use Rattle.table.proofs.Cells.{place-below}
+use Rattle.adder.proofs.Fill.{response-test, response-fault, responses_start, responses_store, responses_end}
+use Rattle.table.proofs.Cells.{place_below}
 use Rattle.adder.proofs.adder_cells.Statement.{statement}
 use Rattle.adder.proofs.adder_cells.Tie as tie
 
@@ -18,7 +18,7 @@ correct-cells-requires : tie.Need-correct-cells-requires invariant-loop decrease
 correct-cells-requires c κs = search rules
 
 loop-holds : tie.Need-loop-init invariant-loop decreases-loop
-loop-holds c = (search rules, search responses-start)
+loop-holds c = (search rules, search responses_start)
 
 nth-response-requires : tie.Need-nth-response-requires invariant-loop decreases-loop
 nth-response-requires c κs = search rules
@@ -36,7 +36,7 @@ place-requires : tie.Need-place-requires invariant-loop decreases-loop
 place-requires c κs = omega (arith, response-test _ _ c.before.before.nth-response.ensures c.before.before.before.loop-test.true, response-fault _ _ c.before.before.nth-response.ensures c.before.before.before.loop-test.true)
 
 array-write-cells : tie.Need-array-write-cells invariant-loop decreases-loop
-array-write-cells c = place-below _ _ _ c.place.ensures (omega (arith, response-test _ _ c.before.before.before.nth-response.ensures c.before.before.before.before.loop-test.true)) (omega (arith, response-fault _ _ c.before.before.before.nth-response.ensures c.before.before.before.before.loop-test.true))
+array-write-cells c = place_below _ _ _ c.place.ensures (omega (arith, response-test _ _ c.before.before.before.nth-response.ensures c.before.before.before.before.loop-test.true)) (omega (arith, response-fault _ _ c.before.before.before.nth-response.ensures c.before.before.before.before.loop-test.true))
 
 add-i : tie.Need-overflow-add-i invariant-loop decreases-loop
 add-i c = search rules
@@ -45,10 +45,10 @@ loop-less : tie.Need-loop-smaller invariant-loop decreases-loop
 loop-less c = search rules
 
 loop-again : tie.Need-loop-preserved invariant-loop decreases-loop
-loop-again c = (search rules, search responses-store)
+loop-again c = (search rules, search responses_store)
 
 returns : tie.Need-returns invariant-loop decreases-loop
-returns c = search responses-end
+returns c = search responses_end
 
 pub adder-cells-spec : {M : Type 1} → statement M
 adder-cells-spec =

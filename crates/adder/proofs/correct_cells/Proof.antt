@@ -1,14 +1,14 @@
 use mathlib.Core.Path.{◌≡◌}
 use Prim.Native.Nat.{◌≤◌, ◌-◌}
 use borrow.Author.Rules.{rules}
-use Rattle.adder.specs.Adder.{rowsFilled}
-use Rattle.adder.specs.Filling.{correctOutput}
-use Rattle.adder.proofs.Fill.{rows_start, correct-row, rows_end}
+use Rattle.adder.specs.Adder.{rows_filled}
+use Rattle.adder.specs.Filling.{correct_output}
+use Rattle.adder.proofs.Fill.{rows_start, correct_row, rows_end}
 use Rattle.adder.proofs.correct_cells.Statement.{statement}
 use Rattle.adder.proofs.correct_cells.Tie as tie
 
 abbrev invariant-loop : tie.invariant-loop
-invariant-loop cells₀ t₀ cells t = (t ≤ 8) × (cells ≡ rowsFilled correctOutput t)
+invariant-loop cells₀ t₀ cells t = (t ≤ 8) × (cells ≡ rows_filled correct_output t)
 
 abbrev decreases-loop : tie.decreases-loop
 decreases-loop cells₀ t₀ cells t = 8 - t
@@ -29,7 +29,7 @@ loop-less : tie.Need-loop-smaller invariant-loop decreases-loop
 loop-less c = search rules
 
 loop-again : tie.Need-loop-preserved invariant-loop decreases-loop
-loop-again c = (search rules, search correct-row)
+loop-again c = (search rules, search correct_row)
 
 returns : tie.Need-returns invariant-loop decreases-loop
 returns c = search rows_end

@@ -1,20 +1,20 @@
 use mathlib.Core.Path.{◌≡◌}
 use Prim.Native.Nat.{◌≤◌, ◌-◌}
 use borrow.Author.Rules.{rules}
-use Rattle.adder.specs.Adder.{lineLabel, noLabels, stuckLabel}
-use Rattle.adder.proofs.Fill.{labels-start, labels-store, table-right}
+use Rattle.adder.specs.Adder.{line_label, no_labels, stuck_label}
+use Rattle.adder.proofs.Fill.{labels-start, labels-store, table_right}
 use Rattle.folds.specs.Fold.{listed, onto}
 use Rattle.adder.proofs.full_adder.Statement.{statement}
 use Rattle.adder.proofs.full_adder.Tie as tie
 
 abbrev invariant-loop : tie.invariant-loop
-invariant-loop lines₀ stuck₀ f₀ lines stuck f = (f ≤ 10) × (lines ≡ onto (listed lineLabel f) noLabels) × (stuck ≡ onto (listed stuckLabel f) noLabels)
+invariant-loop lines₀ stuck₀ f₀ lines stuck f = (f ≤ 10) × (lines ≡ onto (listed line_label f) no_labels) × (stuck ≡ onto (listed stuck_label f) no_labels)
 
 abbrev decreases-loop : tie.decreases-loop
 decreases-loop lines₀ stuck₀ f₀ lines stuck f = 10 - f
 
 loop-holds : tie.Need-loop-init invariant-loop decreases-loop
-loop-holds c = (search rules, labels-start lineLabel, labels-start stuckLabel)
+loop-holds c = (search rules, labels-start line_label, labels-start stuck_label)
 
 line-label-requires : tie.Need-line-label-requires invariant-loop decreases-loop
 line-label-requires c κs = search rules
@@ -44,7 +44,7 @@ empty-table-requires : tie.Need-empty-table-requires invariant-loop decreases-lo
 empty-table-requires c κs = search rules
 
 returns : tie.Need-returns invariant-loop decreases-loop
-returns c = search table-right
+returns c = search table_right
 
 pub full-adder-spec : {M : Type 1} → statement M
 full-adder-spec =

@@ -1,5 +1,5 @@
 use borrow.Author.Rules.{rules}
-use Rattle.adder.specs.Adder.{lineLabel}
+use Rattle.adder.specs.Adder.{line_label}
 use Rattle.adder.proofs.line_label.Statement.{statement}
 use Rattle.adder.proofs.line_label.Tie as tie
 
@@ -10,7 +10,7 @@ cast-result : tie.Need-overflow-cast-result
 cast-result c = search rules
 
 returns : tie.Need-returns
-unfolding lineLabel
+unfolding line_label
 returns c = search rules
 
 pub line-label-spec : {M : Type 1} → statement M

@@ -2,15 +2,15 @@ use mathlib.Core.Path.{◌≡◌, refl}
 use Prim.Native.Nat.{◌≤◌, ◌-◌}
 use native.Mathlib.Omega.{arith}
 use borrow.Author.Rules.{rules}
-use Rattle.adder.specs.Adder.{rowFilled}
+use Rattle.adder.specs.Adder.{row_filled}
 use Rattle.adder.specs.Filling.{same}
 use Rattle.adder.proofs.Fill.{row-start, row-store, row-end}
-use Rattle.table.proofs.Cells.{place-below}
+use Rattle.table.proofs.Cells.{place_below}
 use Rattle.adder.proofs.row.Statement.{statement}
 use Rattle.adder.proofs.row.Tie as tie
 
 abbrev invariant-loop : tie.invariant-loop
-invariant-loop t output next₀ c₀ next c = (c ≤ 11) × (next ≡ rowFilled (same output) t c next₀)
+invariant-loop t output next₀ c₀ next c = (c ≤ 11) × (next ≡ row_filled (same output) t c next₀)
 
 abbrev decreases-loop : tie.decreases-loop
 decreases-loop t output next₀ c₀ next c = 11 - c
@@ -22,7 +22,7 @@ place-requires : tie.Need-place-requires invariant-loop decreases-loop
 place-requires c κs = search rules
 
 array-write-next : tie.Need-array-write-next invariant-loop decreases-loop
-array-write-next c = place-below _ _ _ c.place.ensures (omega arith) (omega arith)
+array-write-next c = place_below _ _ _ c.place.ensures (omega arith) (omega arith)
 
 add-c : tie.Need-overflow-add-c invariant-loop decreases-loop
 add-c c = search rules

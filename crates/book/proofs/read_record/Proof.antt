@@ -1,8 +1,8 @@
 use borrow.Author.Rules.{rules}
 use Rattle.records.proofs.Answers.{is-step}
 use Rattle.records.proofs.Judged.{judges}
-use Rattle.book.proofs.Sounds.{sound-counts}
-use Rattle.book.specs.RecordAt.{callRule, recordAt}
+use Rattle.book.proofs.Sounds.{sound_counts}
+use Rattle.book.specs.RecordAt.{call_rule, record_at}
 use Rattle.records.specs.Step.{stepAt}
 use Rattle.book.proofs.read_record.Statement.{statement}
 use Rattle.book.proofs.read_record.Tie as tie
@@ -14,21 +14,21 @@ refuse-requires : tie.Need-refuse-requires
 refuse-requires c κs = search rules
 
 returns : tie.Need-returns
-unfolding recordAt callRule
+unfolding record_at call_rule
 returns c = is-step _ _ (search judges)
 
 refuse-requires-2 : tie.Need-refuse-requires-2
 refuse-requires-2 c κs = search rules
 
 returns-2 : tie.Need-returns-2
-unfolding recordAt callRule
+unfolding record_at call_rule
 returns-2 c = is-step _ _ (search judges)
 
 step-requires : tie.Need-step-requires
-step-requires c κs = search sound-counts
+step-requires c κs = search sound_counts
 
 returns-3 : tie.Need-returns-3
-unfolding recordAt callRule stepAt
+unfolding record_at call_rule stepAt
 returns-3 c = is-step _ _ (search judges depth 14)
 
 pub read-record-spec : {M : Type 1} → statement M

@@ -2,7 +2,7 @@ use mathlib.Core.Path.{sym, ◌∙◌}
 use native.Mathlib.Omega.{arith}
 use borrow.Author.Rules.{rules}
 use Rattle.cover.proofs.Fill.{filled-fits, filled-few, filled-part}
-use Rattle.choice.proofs.Root.{zeros-part, few-part, few-fits, kept_low, sought-by}
+use Rattle.choice.proofs.Root.{zeros_part, few-part, few-fits, kept_low, sought-by}
 use Rattle.choice.proofs.chosen_for.Statement.{statement}
 use Rattle.choice.proofs.chosen_for.Tie as tie
 
@@ -25,16 +25,16 @@ slice-aggregate-least-masks : tie.Need-slice-aggregate-least-masks
 slice-aggregate-least-masks c = filled-part _ _ _ c.before.before.before.before.masks-of.ensures
 
 array-borrow-prefix-few : tie.Need-array-borrow-prefix-few
-array-borrow-prefix-few c = filled-few _ _ _ c.before.before.before.before.masks-of.ensures c.before.before.before.before.before.requires.faults-fit
+array-borrow-prefix-few c = filled-few _ _ _ c.before.before.before.before.masks-of.ensures c.before.before.before.before.before.requires.faults_fit
 
 slice-aggregate-least-masks-2 : tie.Need-slice-aggregate-least-masks-2
-slice-aggregate-least-masks-2 c = zeros-part _ (filled-few _ _ _ c.before.before.before.before.before.masks-of.ensures c.before.before.before.before.before.before.requires.faults-fit)
+slice-aggregate-least-masks-2 c = zeros_part _ (filled-few _ _ _ c.before.before.before.before.before.masks-of.ensures c.before.before.before.before.before.before.requires.faults_fit)
 
 least-masks-requires : tie.Need-least-masks-requires
 least-masks-requires c κs = (
-  omega (arith, filled-few _ _ _ c.before.before.before.before.before.masks-of.ensures c.before.before.before.before.before.before.requires.faults-fit, filled-part _ _ _ c.before.before.before.before.before.masks-of.ensures),
+  omega (arith, filled-few _ _ _ c.before.before.before.before.before.masks-of.ensures c.before.before.before.before.before.before.requires.faults_fit, filled-part _ _ _ c.before.before.before.before.before.masks-of.ensures),
   kept_low _ c.before.before.before.before.before.before.requires _ _ c.before.before.before.before.before.masks-of.ensures _ c.before.before.kept-tests.ensures,
-  sym (zeros-part _ (filled-few _ _ _ c.before.before.before.before.before.masks-of.ensures c.before.before.before.before.before.before.requires.faults-fit)) ∙ filled-part _ _ _ c.before.before.before.before.before.masks-of.ensures,
+  sym (zeros_part _ (filled-few _ _ _ c.before.before.before.before.before.masks-of.ensures c.before.before.before.before.before.before.requires.faults_fit)) ∙ filled-part _ _ _ c.before.before.before.before.before.masks-of.ensures,
 )
 
 weights-of-requires : tie.Need-weights-of-requires

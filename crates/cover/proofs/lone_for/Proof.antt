@@ -1,5 +1,5 @@
 use borrow.Author.Rules.{rules}
-use Rattle.cover.proofs.Fill.{filled-fits, filled-lone, filled-part}
+use Rattle.cover.proofs.Fill.{filled-fits, filled_lone, filled-part}
 use Rattle.cover.proofs.lone_for.Statement.{statement}
 use Rattle.cover.proofs.lone_for.Tie as tie
 
@@ -16,7 +16,7 @@ lone-tests-requires : tie.Need-lone-tests-requires
 lone-tests-requires c κs = search rules
 
 returns : tie.Need-returns
-returns c = search filled-lone
+returns c = search filled_lone
 
 pub lone-for-spec : {M : Type 1} → statement M
 lone-for-spec =

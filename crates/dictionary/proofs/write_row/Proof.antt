@@ -5,7 +5,7 @@ use native.Mathlib.Omega.{arith}
 use borrow.Author.Rules.{rules}
 use lib.ListN.{length}
 use Rattle.folds.specs.Fold.{gather, onto}
-use Rattle.folds.proofs.Count.{tally, count-start, count_fits}
+use Rattle.folds.proofs.Count.{tally, count_start, count_fits}
 use Rattle.folds.proofs.Gather.{gathers, gather-start}
 use Rattle.folds.proofs.Onto.{keeps}
 use Rattle.sets.specs.Sets.{has, size}
@@ -25,7 +25,7 @@ abbrev decreases-loop : tie.decreases-loop
 decreases-loop cells tests set c row₀ j₀ i₀ row j i = tests - i
 
 loop-holds : tie.Need-loop-init invariant-loop decreases-loop
-loop-holds c = (search rules, count-start _, gather-start _ _ _, search rules)
+loop-holds c = (search rules, count_start _, gather-start _ _ _, search rules)
 
 has-requires : tie.Need-has-requires invariant-loop decreases-loop
 has-requires c κs = search rules

@@ -5,9 +5,9 @@ use borrow.Author.Rules.{rules}
 use lib.ListN.{length}
 use Rattle.folds.proofs.Joined.{rows_at, rows_stay, rows-put, rows_pass, rows_end, rows-zero, rows_start, rows-room}
 use Rattle.folds.specs.Fold.{onto}
-use Rattle.folds.proofs.Onto.{keeps, part_length, kept-part, part-fits}
+use Rattle.folds.proofs.Onto.{keeps, part_length, kept_part, part_fits}
 use Rattle.table.specs.Table.{cell_at}
-use Rattle.dictionary.specs.Dictionary.{rowsUnder}
+use Rattle.dictionary.specs.Dictionary.{rows_under}
 use Rattle.dictionary.proofs.Rows.{row-size}
 use Rattle.dictionary.proofs.write_rows.Statement.{statement}
 use Rattle.dictionary.proofs.write_rows.Tie as tie
@@ -15,8 +15,8 @@ use Rattle.dictionary.proofs.write_rows.Tie as tie
 abbrev invariant-loop : tie.invariant-loop
 invariant-loop cells tests set columns n buf₀ at₀ i₀ buf at i =
     (i ≤ columns)
-    × (at ≡ length (rowsUnder (cell_at cells) tests set i))
-    × (buf ≡ onto (rowsUnder (cell_at cells) tests set i) buf₀)
+    × (at ≡ length (rows_under (cell_at cells) tests set i))
+    × (buf ≡ onto (rows_under (cell_at cells) tests set i) buf₀)
     × (length buf ≡ length buf₀)
 
 abbrev decreases-loop : tie.decreases-loop
@@ -29,7 +29,7 @@ lowest-requires : tie.Need-lowest-requires invariant-loop decreases-loop
 lowest-requires c κs = search rules
 
 add-end : tie.Need-overflow-add-end invariant-loop decreases-loop
-add-end c = search (part-fits, rows-room, row-size)
+add-end c = search (part_fits, rows-room, row-size)
 
 sub-write-row : tie.Need-overflow-sub-write-row invariant-loop decreases-loop
 sub-write-row c = search rules
@@ -54,7 +54,7 @@ loop-again c = (
   search rules,
   ⊎_elim (λ w. search (rows_at, row-size)) (λ w. search rows_stay) c.if1.branch,
   ⊎_elim (λ w. search (rows-put, row-size)) (λ w. search rows_pass) c.if1.branch,
-  ⊎_elim (λ w. search kept-part) (λ w. search keeps) c.if1.branch,
+  ⊎_elim (λ w. search kept_part) (λ w. search keeps) c.if1.branch,
 )
 
 same_length : tie.Need-same-length invariant-loop decreases-loop

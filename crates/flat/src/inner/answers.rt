@@ -1,8 +1,8 @@
 // Answers as one number, goals and caps as numbers.
 ghost use Rattle.std.specs.Prelude.{[], ◌≡◌, ◌≤◌, ◌<◌, take};
-ghost use Rattle.table.specs.Answers.{number_of, chosenNumber, chosenSet, writtenNumber, writtenCount};
-ghost use Rattle.flat.specs.Packed.{packed, goalOf, NoGoal};
-ghost use Rattle.flat.specs.Caps.{valueLimit, cap_of};
+ghost use Rattle.table.specs.Answers.{number_of, chosen_number, chosen_set, written_number, written_count};
+ghost use Rattle.flat.specs.Packed.{packed, goal_of, NoGoal};
+ghost use Rattle.flat.specs.Caps.{value_limit, cap_of};
 ghost use Rattle.flat.specs.Writes.{CallWrites};
 
 use table::{Chosen, Goal, Refusal, Table, Verdict, Written};
@@ -26,7 +26,7 @@ pub fn no_goal(table: Table) -> u64
 }
 
 pub fn goal_of(goal: u64) -> Goal
-    ensures { result ≡ goalOf goal }
+    ensures { result ≡ goal_of goal }
 {
     if goal == 0 {
         Goal::Detect
@@ -46,7 +46,7 @@ pub fn cap_of(cap: u64) -> u32
 }
 
 pub fn of_chosen(answer: Chosen) -> u64
-    ensures { result ≡ packed (chosenNumber answer) (chosenSet answer) }
+    ensures { result ≡ packed (chosen_number answer) (chosen_set answer) }
 {
     match answer {
         Chosen::Tests(set) => set as u64 * 256,
@@ -55,8 +55,8 @@ pub fn of_chosen(answer: Chosen) -> u64
 }
 
 pub fn of_written(answer: Written) -> u64
-    requires { writtenCount answer < valueLimit }
-    ensures { result ≡ packed (writtenNumber answer) (writtenCount answer) }
+    requires { written_count answer < value_limit }
+    ensures { result ≡ packed (written_number answer) (written_count answer) }
 {
     match answer {
         Written::Bytes(count) => count as u64 * 256,

@@ -1,7 +1,7 @@
 // A table lent as bytes.
 ghost use Rattle.std.specs.Prelude.{◌≡◌, ◌+◌, ◌≤◌, length};
 ghost use Rattle.folds.specs.Fold.{listed};
-ghost use Rattle.flat.specs.Flat.{byte_at, cellsFilled, table_of, lentTable};
+ghost use Rattle.flat.specs.Flat.{byte_at, cells_filled, table_of, lent_table};
 
 use crate::inner::LENGTH;
 use table::Table;
@@ -9,7 +9,7 @@ use table::Table;
 // The cells, each at its place.
 fn cells_from(bytes: &[u8]) -> [u8; 1464]
     requires { length bytes.now ≡ 1586 }
-    ensures { result ≡ cellsFilled bytes.now 1464 }
+    ensures { result ≡ cells_filled bytes.now 1464 }
 {
     let mut cells = [0; 1464];
     let mut k = 0;
@@ -55,7 +55,7 @@ fn table_of(bytes: &[u8]) -> Table
 
 // The table that is lent; one that is not well formed where the length is not a table's.
 pub fn table_in(bytes: &[u8]) -> Table
-    ensures { result ≡ lentTable bytes.now }
+    ensures { result ≡ lent_table bytes.now }
 {
     if bytes.len() != LENGTH {
         let mut none = table::empty_table();

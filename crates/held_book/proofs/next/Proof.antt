@@ -29,12 +29,12 @@ use denote.Triple.Walked.{says, Stays, stay_ref, stay_none, walk_of, Goes-none, 
 use denote.Exit.{yes}
 use denote.Triple.Statement.{Contract, Triple}
 use Rattle.records.specs.StepIs.{StepIs}
-use Rattle.book.specs.RecordAt.{recordAt}
+use Rattle.book.specs.RecordAt.{record_at}
 use Rattle.held_book.specs.declared.Reader.{Reader}
 use Rattle.records.specs.declared.Stepped.{Stepped}
 use Rattle.records.specs.declared.SoFar.{SoFar}
 use Rattle.book.proofs.read_record.Symbol.{name as #book·read-record}
-use Rattle.held_book.proofs.Walks.{α, R, step-spelt, answers, frames, proved}
+use Rattle.held_book.proofs.Walks.{α, R, step_spelt, answers, frames, proved}
 use Rattle.held_book.specs.contracts.next.Key.{name as #held-book·next}
 use seplogic.Ra.Ura.{Ura}
 use seplogic.Ra.TreeShare.{full_share}
@@ -92,7 +92,7 @@ module _ {M : Type 1} {𝓤 : Ura M} (𝓛 : Logic 𝓤) (mem : Memory → SProp
   at = (vptr b o ∷ [], (w ∷ [], tt))
 
   abbrev found : Stepped
-  found = recordAt h.book.now h.at p
+  found = record_at h.book.now h.at p
 
   -- the reader at another place
   abbrev moved : ℕ → Reader
@@ -132,7 +132,7 @@ module _ {M : Type 1} {𝓤 : Ura M} (𝓛 : Logic 𝓤) (mem : Memory → SProp
   again n ok = qed 𝓛 (‵ Own ∷ []) ∵ owned ! usize (Is usize) (uint_Makes 𝓛 w64) n _ (refl, ok) $ move ! (1 ∷ 0 ∷ []) $ by ! (own_put 𝓛 D L 1 vh n (T'.lowered h))
 
   fits-place : (r : Stepped) (u : Val) → Is S.the_row r (u ∷ []) → r.place < 2 ^ 64
-  fits-place r u is = (LL.owed S.the_type S'.the_laws r _ (step-spelt r u is)).1.0.1
+  fits-place r u is = (LL.owed S.the_type S'.the_laws r _ (step_spelt r u is)).1.0.1
 
   module _ (isp : Is P.the_row p (w ∷ [])) where
     exits : (r : Stepped) → Is S.the_row r (LL.vals S.the_type S'.the_laws r) → StepIs found r
@@ -170,13 +170,13 @@ module _ {M : Type 1} {𝓤 : Ura M} (𝓛 : Logic 𝓤) (mem : Memory → SProp
           land ! (from ! (stop !)) (init ! 10 refl ((LL.lawful S.the_type S'.the_laws 𝓛).typed r _ is).0) $
           rewrite ! 10 (λ (t : Val). ‵ (fat full_share S'.mir l₃ 0 t)) (ap only (LL.tells S.the_type S'.the_laws r (u ∷ []) is)) refl $
           assigns ! (of_opd ! (load ! (from ! (fld ! refl (stop !))) (look_in ! 10 (sub ! 1 refl (whole !))))) (from ! (hop ! (look ! 14 refl) (fld ! refl (stop !)))) (store_in ! 2 (sub ! 1 refl (whole !)) (tt, record { fits = fits-place r u is })) $
-          assigns ! (of_opd ! (load ! (from ! (stop !)) (look ! 10 refl))) (from ! (stop !)) (init ! 16 refl ((LL.lawful S.the_type S'.the_laws 𝓛).typed r _ (step-spelt r u is)).0) $
+          assigns ! (of_opd ! (load ! (from ! (stop !)) (look ! 10 refl))) (from ! (stop !)) (init ! 16 refl ((LL.lawful S.the_type S'.the_laws 𝓛).typed r _ (step_spelt r u is)).0) $
           move ! (1 ∷ []) $ use1 𝓛 (‵ ((R κ').own_val (moved r.place) (T'.lowered (moved r.place) ∷ []))) (again r.place (fits-place r u is)) $
           move ! (2 ∷ []) $ use1 𝓛 (‵ (cell_at full_share (R κ').mir (T'.lowered (moved r.place) ∷ []) b o)) (𝓛.laws.at_raw full_share (T'.mir erased) b o (T'.lowered (moved r.place))) $ move ! (0 ∷ 1 ∷ 3 ∷ 4 ∷ 5 ∷ []) $
           closes ! tt (R κ') (moved r.place) (T'.lowered (moved r.place) ∷ []) b o $
           -- [obs; the borrow; its token; 'a's token; _5; …; _4; …; _3; …; _2; …; _1; …; _0; …]
           returns ! (look ! 14 refl) $ forget ! 4 refl $ forget ! 6 refl $ forget ! 8 refl $ forget ! 10 refl $ forget ! 12 refl $ forget ! 14 refl $
-          move ! (14 ∷ 15 ∷ []) $ free1 ! $ move ! (12 ∷ 13 ∷ []) $ free1 ! $ move ! (10 ∷ 11 ∷ []) $ free1 ! $ move ! (8 ∷ 9 ∷ []) $ free1 ! $ move ! (6 ∷ 7 ∷ []) $ free1 ! $ move ! (4 ∷ 5 ∷ []) $ free1 ! $ free0 ! $ by ! (exits r (step-spelt r u is) e))))))))))))
+          move ! (14 ∷ 15 ∷ []) $ free1 ! $ move ! (12 ∷ 13 ∷ []) $ free1 ! $ move ! (10 ∷ 11 ∷ []) $ free1 ! $ move ! (8 ∷ 9 ∷ []) $ free1 ! $ move ! (6 ∷ 7 ∷ []) $ free1 ! $ move ! (4 ∷ 5 ∷ []) $ free1 ! $ free0 ! $ by ! (exits r (step_spelt r u is) e))))))))))))
 
 pub next-spec : {M : Type 1} → stated.statement M
 unfolding code.routine

@@ -37,20 +37,20 @@ use Rattle.records.specs.Step.{start}
 use Rattle.records.specs.declared.SoFar.{SoFar}
 use Rattle.records.specs.declared.Stepped.{Stepped}
 use Rattle.book.specs.SomeStart.{Reached}
-use Rattle.book.specs.Reading.{readBook, reading_of, ReadingIs}
+use Rattle.book.specs.Reading.{read_book, reading_of, ReadingIs}
 use Rattle.records.proofs.Answers.{step_is}
-use Rattle.table.specs.Answers.{verdictNumber}
-use Rattle.book.specs.RecordAt.{recordAt}
+use Rattle.table.specs.Answers.{verdict_number}
+use Rattle.book.specs.RecordAt.{record_at}
 use Rattle.book.proofs.Loop.{begins}
 use Rattle.held_book.specs.Held.{Keeps, GivesNext}
-use Rattle.held_book.specs.Last.{isLast, verdictOf}
+use Rattle.held_book.specs.Last.{is_last, verdict_of}
 use Rattle.held_book.specs.declared.Reader.{Reader}
 use Rattle.book.proofs.begin.Symbol.{name as #book·begin}
 use Rattle.held_book.proofs.hold.Symbol.{name as #held-book·hold}
 use Rattle.held_book.proofs.next.Symbol.{name as #held-book·next}
 use Rattle.held_book.proofs.is_last.Symbol.{name as #held-book·is-last}
 use Rattle.held_book.proofs.ended.Symbol.{name as #held-book·ended}
-use Rattle.held_book.proofs.Walks.{B, D, L, step-spelt, answers, proved, env, past}
+use Rattle.held_book.proofs.Walks.{B, D, L, step_spelt, answers, proved, env, past}
 use Rattle.held_book.proofs.Lends.{Next, Cell, Owned, lends, to-next, comes_back}
 use Rattle.held_book.proofs.Onwards.{ends, goes_on}
 use Rattle.held_book.specs.contracts.read_held.Key.{name as #held-book·read-held}
@@ -173,14 +173,14 @@ module _ {M : Type 1} {𝓤 : Ura M} (𝓛 : Logic 𝓤) (mem : Memory → SProp
   goes-ended : (t : Stepped) → Is S.the_row t (vals t) → ent 𝓤 (emp 𝓤) ((Ended 𝓛 mem run).pre (to-ended t))
   goes-ended t is = qed 𝓛 [] ∵ nothing ! $ owned ! S.the_row (Is S.the_row) (LL.makes S.the_type S'.the_plain 𝓛) t _ is $ fjoin ! $ nothing ! $ join ! $ frame ! $ done !
 
-  exits : (r : Reading) (u : Val) → Is G.the_row r (u ∷ []) → ReadingIs (readBook s.now) r → ent 𝓤 (⋆ 𝓛 ((‵ (flft κ q) ⊛ ‵ ftrue) ∷ ‵ Owns ∷ [])) (Post u)
+  exits : (r : Reading) (u : Val) → Is G.the_row r (u ∷ []) → ReadingIs (read_book s.now) r → ent 𝓤 (⋆ 𝓛 ((‵ (flft κ q) ⊛ ‵ ftrue) ∷ ‵ Owns ∷ [])) (Post u)
   exits r u is e =
       qed 𝓛 ((‵ (flft κ q) ⊛ ‵ ftrue) ∷ ‵ Owns ∷ []) ∵
       suffices ! _ (ends_at 𝓛 read_held.ended stayed (read_held.clauses 𝓛 mem run) (((κ, tt), (q, tt), tt, (s, tt), at), tt) u r (tt, tt) (tt, tt)) $ says ! e $
       frame ! $ frame ! $ owned ! G.the_row (Is G.the_row) (LL.makes G.the_type G'.the_plain 𝓛) r _ is $ done !
 
   read-on : (t : Stepped) (u : Val) → Is S.the_row t (u ∷ []) → Is P.the_row t.sofar (val t.sofar ∷ [])
-  read-on t u is = (LL.owed S.the_type S'.the_laws t _ (step-spelt t u is)).1.1.0
+  read-on t u is = (LL.owed S.the_type S'.the_laws t _ (step_spelt t u is)).1.1.0
 
   -- ---- the loop: the reader, and what has been read so far
   record Hand : Type 0 where
@@ -201,14 +201,14 @@ module _ {M : Type 1} {𝓤 : Ura M} (𝓛 : Logic 𝓤) (mem : Memory → SProp
 
   module _ (i : Hand) (t : Stepped) (h : Reader) (e : GivesNext i.reader i.sofar t h) where
     -- the step is the one at the reader's place of the book that was lent
-    here : t ≡ recordAt s.now i.reader.at i.sofar
-    here = step_is _ _ e.0 ∙ ap (λ (z : Bor (List ℕ)). recordAt z.now i.reader.at i.sofar) i.same
+    here : t ≡ record_at s.now i.reader.at i.sofar
+    here = step_is _ _ e.0 ∙ ap (λ (z : Bor (List ℕ)). record_at z.now i.reader.at i.sofar) i.same
 
     -- the last step's reading is the book's
-    whole-book : (b : Bool) → b ≡ isLast t.outcome → Holds b → (r : Reading) → ReadingIs (reading_of (verdictNumber (verdictOf t.outcome)) t) r → ReadingIs (readBook s.now) r
+    whole-book : (b : Bool) → b ≡ is_last t.outcome → Holds b → (r : Reading) → ReadingIs (reading_of (verdict_number (verdict_of t.outcome)) t) r → ReadingIs (read_book s.now) r
     whole-book b p l r f = ends s.now i.reader.at i.sofar t i.reached here t.outcome refl (subst Holds p l) r f
 
-    module _ (is' : Is P.the_row t.sofar (val t.sofar ∷ [])) (b : Bool) (p : b ≡ isLast t.outcome) (l : Holds (not b)) where
+    module _ (is' : Is P.the_row t.sofar (val t.sofar ∷ [])) (b : Bool) (p : b ≡ is_last t.outcome) (l : Holds (not b)) where
       onto : Reached s.now t.place t.sofar × (length s.now - t.place < left i)
       onto = goes_on s.now i.reader.at i.sofar t i.reached here t.outcome refl (subst (λ (z : Bool). Holds (not z)) p l)
 
@@ -256,14 +256,14 @@ module _ {M : Type 1} {𝓤 : Ura M} (𝓛 : Logic 𝓤) (mem : Memory → SProp
           comes_back 𝓛 mem run κ q l₂ ! tt ν δ i.reader i.sofar u₄ (λ t h e is.
           -- [_2; what the reader owns; the token; what the parameter owns; _7; …; _6; …; _5; …; _4; …; _3; …; that _2 dies; _1; …; _0; …]
           land ! (from ! (stop !)) (init ! 10 refl ((LL.lawful S.the_type S'.the_laws 𝓛).typed t _ is).0) $ rewrite ! 10 (λ (z : Val). ‵ (fat full_share S'.mir l₄ 0 z)) (ap only (LL.tells S.the_type S'.the_laws t (u₄ ∷ []) is)) refl $
-          use0 𝓛 (raw ((IsLast 𝓛 mem run).pre (to_last t))) (goes_last t (step-spelt t u₄ is)) $
+          use0 𝓛 (raw ((IsLast 𝓛 mem run).pre (to_last t))) (goes_last t (step_spelt t u₄ is)) $
           calls_at ! (fm_of 𝓤 H 𝓛.laws 𝓣) (IsLast 𝓛 mem run) known-last (to_last t) (and_then ! (load ! (from ! (stop !)) (look ! 11 refl)) (no_more !)) (λ u₇.
-          answers ! tt is_last.ended (is_last.clauses 𝓛 mem run) (to_last t) u₇ (λ b. b ≡ isLast t.outcome) (λ _ _. id⊢ 𝓤 _) (λ b p is₇. drop ! $ drop ! $
+          answers ! tt is_last.ended (is_last.clauses 𝓛 mem run) (to_last t) u₇ (λ b. b ≡ is_last t.outcome) (λ _ _. id⊢ 𝓤 _) (λ b p is₇. drop ! $ drop ! $
           land ! (from ! (stop !)) (init ! 4 refl ((bool_Lawful 𝓛).typed b _ is₇).0) $ rewrite ! 4 (λ (z : Val). ‵ (fat full_share ty_bool l₇ 0 z)) (ap only is₇) refl $
           first ! $ branches ! (load ! (from ! (stop !)) (look ! 4 refl))
-          (λ last. use0 𝓛 (raw ((Ended 𝓛 mem run).pre (to-ended t))) (goes-ended t (step-spelt t u₄ is)) $
+          (λ last. use0 𝓛 (raw ((Ended 𝓛 mem run).pre (to-ended t))) (goes-ended t (step_spelt t u₄ is)) $
           calls_at ! (fm_of 𝓤 H 𝓛.laws 𝓣) (Ended 𝓛 mem run) known-ended (to-ended t) (and_then ! (load ! (from ! (stop !)) (look ! 11 refl)) (no_more !)) (λ u₀.
-          answers ! tt ended.ended (ended.clauses 𝓛 mem run) (to-ended t) u₀ (λ r. ReadingIs (reading_of (verdictNumber (verdictOf t.outcome)) t) r) (λ _ _. id⊢ 𝓤 _) (λ r f is₀. drop ! $ drop ! $
+          answers ! tt ended.ended (ended.clauses 𝓛 mem run) (to-ended t) u₀ (λ r. ReadingIs (reading_of (verdict_number (verdict_of t.outcome)) t) r) (λ _ _. id⊢ 𝓤 _) (λ r f is₀. drop ! $ drop ! $
           land ! (from ! (stop !)) (init ! 17 refl ((LL.lawful G.the_type G'.the_laws 𝓛).typed r _ is₀).0) $
           returns_within ! Post refl (look ! 17 refl) $ forget ! 0 refl $ forget ! 4 refl $ forget ! 6 refl $ forget ! 10 refl $ forget ! 12 refl $ forget ! 15 refl $ forget ! 17 refl $
           move ! (17 ∷ 18 ∷ []) $ free1 ! $ move ! (15 ∷ 16 ∷ []) $ free1 ! $ move ! (0 ∷ 14 ∷ []) $ free1 ! $

@@ -25,7 +25,7 @@ use denote.Triple.Walked.{says, Stays, stay_none, stay_none_slice, walk_of, Goes
 use denote.Exit.{yes}
 use denote.Triple.Statement.{Triple}
 use Rattle.records.specs.StepIs.{StepIs}
-use Rattle.book.specs.RecordAt.{recordAt}
+use Rattle.book.specs.RecordAt.{record_at}
 use Rattle.held_book.specs.declared.Reader.{Reader}
 use Rattle.records.specs.declared.Stepped.{Stepped}
 use Rattle.records.specs.declared.SoFar.{SoFar}
@@ -101,7 +101,7 @@ module _ {M : Type 1} {𝓤 : Ura M} (𝓛 : Logic 𝓤) (mem : Memory → SProp
         move ! (0 ∷ 2 ∷ []) $ fjoin ! $ move ! (1 ∷ []) $ nothing ! $ owned ! usize (Is usize) (uint_Makes 𝓛 w64) n _ (refl, n-fits) $ fjoin ! $ move ! (1 ∷ 0 ∷ []) $ fjoin ! $
         use1 𝓛 (‵ (Owned κ made)) (own_shut 𝓛 (T.the_type (α κ)) (T'.the_laws (α κ)) (s, (n, tt))) $ frame ! $ move ! (1 ∷ 0 ∷ []) $ done !
 
-    exits : (t : Stepped) (u : Val) → Is S.the_row t (u ∷ []) → StepIs (recordAt s.now n p) t → ent 𝓤 (⋆ 𝓛 ((‵ (flft κ q) ⊛ ‵ ftrue) ∷ ‵ Owns ∷ [])) (Post u)
+    exits : (t : Stepped) (u : Val) → Is S.the_row t (u ∷ []) → StepIs (record_at s.now n p) t → ent 𝓤 (⋆ 𝓛 ((‵ (flft κ q) ⊛ ‵ ftrue) ∷ ‵ Owns ∷ [])) (Post u)
     exits t u is e =
         qed 𝓛 ((‵ (flft κ q) ⊛ ‵ ftrue) ∷ ‵ Owns ∷ []) ∵
         suffices ! _ (ends_at 𝓛 step-held.ended stayed (step-held.clauses 𝓛 mem run) (((κ, tt), (q, tt), tt, arg, at), tt) u t (tt, (tt, (tt, tt))) (tt, (tt, (tt, tt)))) $ says ! e $

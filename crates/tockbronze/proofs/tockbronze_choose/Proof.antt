@@ -1,6 +1,6 @@
 use borrow.Author.Rules.{rules}
 use Rattle.tockbronze.specs.Calls.{GivesChoice}
-use Rattle.tockbronze.proofs.Goals.{no-goal, for-goal, cap-same}
+use Rattle.tockbronze.proofs.Goals.{no-goal, for-goal, cap_same}
 use Rattle.tockbronze.proofs.tockbronze_choose.Statement.{statement}
 use Rattle.tockbronze.proofs.tockbronze_choose.Tie as tie
 
@@ -26,7 +26,7 @@ of-chosen-requires : tie.Need-of-chosen-requires
 of-chosen-requires c κs = search rules
 
 returns-2 : tie.Need-returns-2
-returns-2 c = for-goal (GivesChoice c.before.before.before.before.before.before.before.args.cap) _ _ _ _ c.before.before.before.before.before.table-in.ensures _ c.before.choose.result c.before.before.before.before.if1.false c.before.before.before.goal-of.ensures (cap-same _ c.before.before.before.goal-of.result _ _ c.before.choose.result c.before.before.cap-of.ensures c.before.choose.ensures) c.of-chosen.ensures
+returns-2 c = for-goal (GivesChoice c.before.before.before.before.before.before.before.args.cap) _ _ _ _ c.before.before.before.before.before.table-in.ensures _ c.before.choose.result c.before.before.before.before.if1.false c.before.before.before.goal-of.ensures (cap_same _ c.before.before.before.goal-of.result _ _ c.before.choose.result c.before.before.cap-of.ensures c.before.choose.ensures) c.of-chosen.ensures
 
 pub tockbronze-choose-spec : {M : Type 1} → statement M
 tockbronze-choose-spec =

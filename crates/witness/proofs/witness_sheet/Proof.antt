@@ -1,7 +1,7 @@
 use borrow.Author.Rules.{rules}
 use Rattle.asks.proofs.Asked.{admits}
 use Rattle.lent.proofs.Lent.{writes-refused, writes-24, writes-0}
-use Rattle.witness.proofs.Size.{sheet-size, sheet-fits, some-class, pairs-fit}
+use Rattle.witness.proofs.Size.{sheet-size, sheet-fits, some_class, pairs_fit}
 use Rattle.witness.proofs.witness_sheet.Statement.{statement}
 use Rattle.witness.proofs.witness_sheet.Tie as tie
 
@@ -24,10 +24,10 @@ class-count-requires : tie.Need-class-count-requires
 class-count-requires c κs = (search admits, search admits)
 
 sub-bytes : tie.Need-overflow-sub-bytes
-sub-bytes c = search some-class
+sub-bytes c = search some_class
 
 mul-bytes : tie.Need-overflow-mul-bytes
-mul-bytes c = search (pairs-fit, admits)
+mul-bytes c = search (pairs_fit, admits)
 
 returns-2 : tie.Need-returns-2
 returns-2 c = search (writes-24, sheet-size)

@@ -1,6 +1,6 @@
 use borrow.Author.Tests.{lt-ltb, le-ltb}
 use borrow.Author.Rules.{rules}
-use Rattle.book.specs.Sound.{correctAt}
+use Rattle.book.specs.Sound.{correct_at}
 use Rattle.book.proofs.sound.correct_at.Statement.{statement}
 use Rattle.book.proofs.sound.correct_at.Tie as tie
 
@@ -11,7 +11,7 @@ add-if1 : tie.Need-overflow-add-if1
 add-if1 c = search rules
 
 returns : tie.Need-returns
-unfolding correctAt
+unfolding correct_at
 returns c = rw (lt-ltb _ _ c.if1.true)
 
 add-agrees : tie.Need-overflow-add-agrees
@@ -21,7 +21,7 @@ agrees-requires : tie.Need-agrees-requires
 agrees-requires c κs = search rules
 
 returns-2 : tie.Need-returns-2
-unfolding correctAt
+unfolding correct_at
 returns-2 c = rw (le-ltb _ _ c.before.if1.false, ← c.agrees.ensures)
 
 pub correct-at-spec : {M : Type 1} → statement M

@@ -4,12 +4,12 @@ use Prim.Native.Nat.{◌≤◌, ◌-◌}
 use borrow.Author.Rules.{rules}
 use Rattle.folds.specs.Fold.{every}
 use Rattle.folds.proofs.Every.{scan}
-use Rattle.book.specs.Sound.{faultCorrect, correctFrom}
+use Rattle.book.specs.Sound.{fault_correct, correct_from}
 use Rattle.book.proofs.sound.correct_from.Statement.{statement}
 use Rattle.book.proofs.sound.correct_from.Tie as tie
 
 abbrev invariant-loop : tie.invariant-loop
-invariant-loop cells tests faults first i₀ i = (i ≤ faults) × (every (faultCorrect cells tests first) i ≡ true)
+invariant-loop cells tests faults first i₀ i = (i ≤ faults) × (every (fault_correct cells tests first) i ≡ true)
 
 abbrev decreases-loop : tie.decreases-loop
 decreases-loop cells tests faults first i₀ i = faults - i
@@ -21,7 +21,7 @@ fault-correct-requires : tie.Need-fault-correct-requires invariant-loop decrease
 fault-correct-requires c κs = search rules
 
 returns : tie.Need-returns invariant-loop decreases-loop
-unfolding correctFrom
+unfolding correct_from
 returns c = search scan
 
 add-i : tie.Need-overflow-add-i invariant-loop decreases-loop
@@ -34,7 +34,7 @@ loop-again : tie.Need-loop-preserved invariant-loop decreases-loop
 loop-again c = (search rules, search scan)
 
 returns-2 : tie.Need-returns-2 invariant-loop decreases-loop
-unfolding correctFrom
+unfolding correct_from
 returns-2 c = search scan
 
 pub correct-from-spec : {M : Type 1} → statement M

@@ -11,7 +11,7 @@ returns : tie.Need-returns
 returns c = search ill-formed
 
 stage-fits-requires : tie.Need-stage-fits-requires
-stage-fits-requires c κs = let w = formed _ (accepted _ _ c.before.well-formed-2.ensures c.if1.false) in (w.tests-fit, w.faults-fit)
+stage-fits-requires c κs = let w = formed _ (accepted _ _ c.before.well-formed-2.ensures c.if1.false) in (w.tests_fit, w.faults_fit)
 
 returns-2 : tie.Need-returns-2
 returns-2 c = search by-stage

@@ -4,7 +4,7 @@ use native.Mathlib.Omega.{arith}
 use borrow.Author.Rules.{rules}
 use lib.ListN.{length, length-take, length-drop}
 use Rattle.folds.specs.Fold.{onto}
-use Rattle.folds.proofs.Onto.{onto-none}
+use Rattle.folds.proofs.Onto.{onto_none}
 use Rattle.choice.specs.Least.{sizeRow}
 use Rattle.choice.proofs.Sizes.{rows_to, rows_none, rows-room, rows-count, rows-put, rows-done, rows_last, rows_long}
 use Rattle.choice.proofs.least.by_size.Statement.{statement}
@@ -27,7 +27,7 @@ sizes-of-requires : tie.Need-sizes-of-requires invariant-loop decreases-loop
 sizes-of-requires c κs = search rules
 
 loop-holds : tie.Need-loop-init invariant-loop decreases-loop
-loop-holds c = (search rules, rw rows_none, rw (rows_none, onto-none))
+loop-holds c = (search rules, rw rows_none, rw (rows_none, onto_none))
 
 same_length : tie.Need-same-length invariant-loop decreases-loop
 same_length c = rows_long _ _ _ _ _ c.before.before.before.before.before.before.requires.2 c.before.before.loop.invariant.2

@@ -6,7 +6,7 @@ use borrow.Author.Rules.{rules}
 use lib.ListN.{length}
 use Rattle.folds.specs.Fold.{onto}
 use Rattle.folds.proofs.Onto.{keeps}
-use Rattle.choice.specs.Least.{leastTo, Seen}
+use Rattle.choice.specs.Least.{least_to, Seen}
 use Rattle.choice.proofs.Left.{least_start, least_zero, seen_none, least-few, least-front, took-list, took-count, left-list, left-count, seen_more}
 use Rattle.choice.proofs.least.least_first.Statement.{statement}
 use Rattle.choice.proofs.least.least_first.Tie as tie
@@ -14,10 +14,10 @@ use Rattle.choice.proofs.least.least_first.Tie as tie
 abbrev invariant-loop : tie.invariant-loop
 invariant-loop masks₀ seen₀ n₀ i₀ masks seen n i =
     (i ≤ length masks₀)
-    × (n ≡ length (leastTo masks₀ i))
-    × (masks ≡ onto (leastTo masks₀ i) masks₀)
+    × (n ≡ length (least_to masks₀ i))
+    × (masks ≡ onto (least_to masks₀ i) masks₀)
     × (length masks ≡ length masks₀)
-    × Seen (leastTo masks₀ i) seen
+    × Seen (least_to masks₀ i) seen
 
 abbrev decreases-loop : tie.decreases-loop
 decreases-loop masks₀ seen₀ n₀ i₀ masks seen n i = length masks₀ - i

@@ -6,7 +6,7 @@ use native.Mathlib.Omega.{arith}
 use borrow.Author.Rules.{rules}
 use lib.ListN.{length}
 use Rattle.folds.specs.Fold.{count, gather, onto}
-use Rattle.folds.proofs.Count.{count-start, count-up, count-on, count-end, count_fits}
+use Rattle.folds.proofs.Count.{count_start, count_up, count_on, count_end, count_fits}
 use Rattle.folds.proofs.Gather.{gather-start, gather-store, gather-pass, gather-end, gather-length}
 use Rattle.folds.proofs.Onto.{keeps}
 use Rattle.choice.specs.Least.{cut_at, sizedAt, sizeRow}
@@ -32,7 +32,7 @@ room c =
     c.before.before.loop-test.true (omega (arith, l.invariant.3, c.before.before.before.before.requires.2))
 
 loop-holds : tie.Need-loop-init invariant-loop decreases-loop
-loop-holds c = (search rules, count-start _, gather-start _ _ _, refl)
+loop-holds c = (search rules, count_start _, gather-start _ _ _, refl)
 
 element-copy-out-if1 : tie.Need-element-copy-out-if1 invariant-loop decreases-loop
 element-copy-out-if1 c = search rules
@@ -65,8 +65,8 @@ loop-again c =
     let at = c.before.before.loop-test.true in
     let e = c.before.before.before.before.requires.1 in (
       search rules,
-      ⊎_elim (λ w. count-up _ _ _ _ true l.invariant.1 (sym (sized-yes _ _ _ _ _ at e w.0.taken)) refl w.3)
-          (λ w. count-on _ _ _ _ false l.invariant.1 (sym (sized-no _ _ _ _ _ at e w.0.left)) refl w.2) c.if1.branch,
+      ⊎_elim (λ w. count_up _ _ _ _ true l.invariant.1 (sym (sized-yes _ _ _ _ _ at e w.0.taken)) refl w.3)
+          (λ w. count_on _ _ _ _ false l.invariant.1 (sym (sized-no _ _ _ _ _ at e w.0.left)) refl w.2) c.if1.branch,
       ⊎_elim (λ w. gather-store _ _ _ _ _ true _ _ _ l.invariant.2 l.invariant.1 (room record { before = c.before; if1 = w.0 }) l.invariant.3 (sym (sized-yes _ _ _ _ _ at e w.0.taken)) refl refl w.2)
           (λ w. gather-pass _ _ _ false _ _ _ l.invariant.2 (sym (sized-no _ _ _ _ _ at e w.0.left)) refl w.1) c.if1.branch,
       ⊎_elim (λ w. search keeps) (λ w. search keeps) c.if1.branch,
@@ -79,7 +79,7 @@ returns : tie.Need-returns invariant-loop decreases-loop
 unfolding sizeRow
 returns c =
     let l = c.before.loop in (
-      count-end _ _ _ _ l.invariant.0 c.loop-test.false l.invariant.1 ∙ sym (gather-length _ _ _),
+      count_end _ _ _ _ l.invariant.0 c.loop-test.false l.invariant.1 ∙ sym (gather-length _ _ _),
       gather-end _ _ _ _ _ _ l.invariant.2 l.invariant.0 c.loop-test.false,
     )
 

@@ -5,19 +5,19 @@ use borrow.Author.Rules.{rules}
 use lib.ListN.{length}
 use Rattle.folds.specs.Fold.{listed, onto}
 use Rattle.folds.proofs.Gather.{listed_start}
-use Rattle.choice.specs.Least.{noSizes, size_at}
+use Rattle.choice.specs.Least.{no_sizes, size_at}
 use Rattle.choice.proofs.Sizes.{size_fits, sizes-put, sizes-end}
 use Rattle.choice.proofs.least.sizes_of.Statement.{statement}
 use Rattle.choice.proofs.least.sizes_of.Tie as tie
 
 abbrev invariant-loop : tie.invariant-loop
-invariant-loop masks kept sizes₀ i₀ sizes i = (i ≤ length masks) × (sizes ≡ onto (listed (size_at masks kept) i) noSizes)
+invariant-loop masks kept sizes₀ i₀ sizes i = (i ≤ length masks) × (sizes ≡ onto (listed (size_at masks kept) i) no_sizes)
 
 abbrev decreases-loop : tie.decreases-loop
 decreases-loop masks kept sizes₀ i₀ sizes i = length masks - i
 
 loop-holds : tie.Need-loop-init invariant-loop decreases-loop
-unfolding noSizes
+unfolding no_sizes
 loop-holds c = (search rules, listed_start _ _)
 
 mul-sizes : tie.Need-overflow-mul-sizes invariant-loop decreases-loop

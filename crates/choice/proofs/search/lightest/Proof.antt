@@ -2,15 +2,15 @@ use mathlib.Core.Path.{◌≡◌}
 use Prim.Native.Nat.{◌-◌, ◌≤◌}
 use native.Mathlib.Omega.{arith}
 use borrow.Author.Rules.{rules}
-use Rattle.sets.specs.Inner.{weightIn}
+use Rattle.sets.specs.Inner.{weight_in}
 use Rattle.choice.specs.Search.{NoneBelow}
-use Rattle.choice.proofs.Root.{node-root}
+use Rattle.choice.proofs.Root.{node_root}
 use Rattle.choice.proofs.Tree.{best-found, none-zero, none_found}
 use Rattle.choice.proofs.search.lightest.Statement.{statement}
 use Rattle.choice.proofs.search.lightest.Tie as tie
 
 abbrev invariant-loop : tie.invariant-loop
-invariant-loop masks weights kept all floor₀ floor = (floor ≤ all) × NoneBelow (weightIn weights) masks kept 0 0 floor
+invariant-loop masks weights kept all floor₀ floor = (floor ≤ all) × NoneBelow (weight_in weights) masks kept 0 0 floor
 
 abbrev decreases-loop : tie.decreases-loop
 decreases-loop masks weights kept all floor₀ floor = all - floor
@@ -25,7 +25,7 @@ add-best : tie.Need-overflow-add-best invariant-loop decreases-loop
 add-best c = search rules
 
 best-requires : tie.Need-best-requires invariant-loop decreases-loop
-best-requires c κs = (search rules, node-root _ _, c.before.loop.invariant.1)
+best-requires c κs = (search rules, node_root _ _, c.before.loop.invariant.1)
 
 enum_told : tie.Need-enum-told invariant-loop decreases-loop
 enum_told c = search rules
@@ -51,7 +51,7 @@ add-best-2 c = omega (arith, c.before.before.weight-of-all.ensures, c.before.bef
 best-requires-2 : tie.Need-best-requires-2 invariant-loop decreases-loop
 best-requires-2 c κs =
     let e : c.before.loop.floor ≡ c.before.before.weight-of-all.result = omega (arith, c.before.loop.invariant.0, c.loop-test.false) in
-    (search rules, node-root _ _, rw e at c.before.loop.invariant.1)
+    (search rules, node_root _ _, rw e at c.before.loop.invariant.1)
 
 returns-2 : tie.Need-returns-2 invariant-loop decreases-loop
 returns-2 c = rw c.before.before.before.weight-of-all.ensures at c.best2.ensures

@@ -2,13 +2,13 @@ use mathlib.Core.Path.{◌≡◌}
 use Prim.Native.Nat.{◌≤◌, ◌-◌}
 use borrow.Author.Rules.{rules}
 use Rattle.folds.specs.Fold.{total}
-use Rattle.sets.specs.Inner.{weightIn}
+use Rattle.sets.specs.Inner.{weight_in}
 use Rattle.choice.proofs.Weights.{sums}
 use Rattle.choice.proofs.search.weight_of_all.Statement.{statement}
 use Rattle.choice.proofs.search.weight_of_all.Tie as tie
 
 abbrev invariant-loop : tie.invariant-loop
-invariant-loop weights sum₀ t₀ sum t = (t ≤ 24) × (sum ≡ total (weightIn weights) t)
+invariant-loop weights sum₀ t₀ sum t = (t ≤ 24) × (sum ≡ total (weight_in weights) t)
 
 abbrev decreases-loop : tie.decreases-loop
 decreases-loop weights sum₀ t₀ sum t = 24 - t

@@ -4,7 +4,7 @@ use Prim.Native.Nat.{◌≤◌, ◌-◌}
 use native.Mathlib.Omega.{arith}
 use borrow.Author.Rules.{rules}
 use Rattle.folds.specs.Fold.{count, listed, onto}
-use Rattle.folds.proofs.Count.{count-start, count_fits}
+use Rattle.folds.proofs.Count.{count_start, count_fits}
 use Rattle.table.specs.Answers.{unlisted}
 use Rattle.table.specs.Table.{cell_at}
 use Rattle.terms.specs.Columns.{lowest, classNumber}
@@ -23,7 +23,7 @@ decreases-loop cells tests columns of₀ next₀ i₀ of next i = columns - i
 
 loop-holds : tie.Need-loop-init invariant-loop decreases-loop
 unfolding unlisted
-loop-holds c = (search rules, count-start _, numbers-start _ _)
+loop-holds c = (search rules, count_start _, numbers-start _ _)
 
 lowest-of-requires : tie.Need-lowest-of-requires invariant-loop decreases-loop
 lowest-of-requires c κs = search rules

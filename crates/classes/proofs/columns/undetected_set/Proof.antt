@@ -6,12 +6,12 @@ use borrow.Author.Rules.{rules}
 use Rattle.sets.proofs.Collect.{set-fits, set-up, collects}
 use Rattle.table.specs.Table.{cell_at}
 use Rattle.classes.specs.Undetected.{undetected}
-use Rattle.sets.specs.Collect.{setOf}
+use Rattle.sets.specs.Collect.{set_of}
 use Rattle.classes.proofs.columns.undetected_set.Statement.{statement}
 use Rattle.classes.proofs.columns.undetected_set.Tie as tie
 
 abbrev invariant-loop : tie.invariant-loop
-invariant-loop cells tests faults set₀ i₀ set i = (i ≤ faults) × (set ≡ setOf (undetected (cell_at cells) tests) i)
+invariant-loop cells tests faults set₀ i₀ set i = (i ≤ faults) × (set ≡ set_of (undetected (cell_at cells) tests) i)
 
 abbrev decreases-loop : tie.decreases-loop
 decreases-loop cells tests faults set₀ i₀ set i = faults - i

@@ -6,7 +6,7 @@ use borrow.Author.Rules.{rules}
 use Rattle.table.specs.Table.{cell_at}
 use Rattle.terms.specs.Columns.{lowest}
 use Rattle.folds.specs.Fold.{count}
-use Rattle.folds.proofs.Count.{tally, count_fits, count-start}
+use Rattle.folds.proofs.Count.{tally, count_fits, count_start}
 use Rattle.classes.proofs.inner.class_count.Statement.{statement}
 use Rattle.classes.proofs.inner.class_count.Tie as tie
 
@@ -17,7 +17,7 @@ abbrev decreases-loop : tie.decreases-loop
 decreases-loop cells tests columns n₀ i₀ n i = columns - i
 
 loop-holds : tie.Need-loop-init invariant-loop decreases-loop
-loop-holds c = (search rules, count-start _)
+loop-holds c = (search rules, count_start _)
 
 lowest-requires : tie.Need-lowest-requires invariant-loop decreases-loop
 lowest-requires c κs = search rules

@@ -6,12 +6,12 @@ use borrow.Author.Rules.{rules}
 use Rattle.sets.proofs.Collect.{set-fits, set-up, collects}
 use Rattle.table.specs.Table.{cell_at}
 use Rattle.terms.specs.Columns.{lowest}
-use Rattle.sets.specs.Collect.{setOf}
+use Rattle.sets.specs.Collect.{set_of}
 use Rattle.classes.proofs.inner.lowest_set.Statement.{statement}
 use Rattle.classes.proofs.inner.lowest_set.Tie as tie
 
 abbrev invariant-loop : tie.invariant-loop
-invariant-loop cells tests columns set₀ i₀ set i = (i ≤ columns) × (set ≡ setOf (lowest (cell_at cells) tests) i)
+invariant-loop cells tests columns set₀ i₀ set i = (i ≤ columns) × (set ≡ set_of (lowest (cell_at cells) tests) i)
 
 abbrev decreases-loop : tie.decreases-loop
 decreases-loop cells tests columns set₀ i₀ set i = columns - i

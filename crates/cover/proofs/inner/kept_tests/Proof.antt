@@ -3,12 +3,12 @@ use Prim.Native.Nat.{◌≤◌, ◌-◌}
 use borrow.Author.Rules.{rules}
 use Rattle.sets.proofs.Collect.{set-turn, collects, set-start}
 use Rattle.cover.specs.Kept.{kept}
-use Rattle.sets.specs.Collect.{setOf}
+use Rattle.sets.specs.Collect.{set_of}
 use Rattle.cover.proofs.inner.kept_tests.Statement.{statement}
 use Rattle.cover.proofs.inner.kept_tests.Tie as tie
 
 abbrev invariant-loop : tie.invariant-loop
-invariant-loop masks tests set₀ i₀ set i = (i ≤ tests) × (set ≡ setOf (kept masks tests) i)
+invariant-loop masks tests set₀ i₀ set i = (i ≤ tests) × (set ≡ set_of (kept masks tests) i)
 
 abbrev decreases-loop : tie.decreases-loop
 decreases-loop masks tests set₀ i₀ set i = tests - i
@@ -29,7 +29,7 @@ loop-less : tie.Need-loop-smaller invariant-loop decreases-loop
 loop-less c = search rules
 
 loop-again : tie.Need-loop-preserved invariant-loop decreases-loop
-loop-again c = (search rules, set-turn _ _ _ _ _ c.before.before.before.loop.invariant.1 c.before.is-kept.ensures c.set-with.ensures)
+loop-again c = (search rules, set-turn _ _ _ _ _ c.before.before.before.loop.invariant.1 c.before.is_kept.ensures c.set-with.ensures)
 
 returns : tie.Need-returns invariant-loop decreases-loop
 returns c = search collects

@@ -3,18 +3,18 @@ use Prim.Native.Nat.{◌+◌, ◌≤◌, ◌-◌}
 use native.Mathlib.Omega.{arith}
 use borrow.Author.Rules.{rules}
 use lib.ListN.{length, length-take, length-drop}
-use Rattle.folds.proofs.Onto.{onto-none}
+use Rattle.folds.proofs.Onto.{onto_none}
 use Rattle.folds.specs.Fold.{onto}
 use Rattle.table.specs.Table.{cell_at}
-use Rattle.cover.specs.Masks.{masksOf}
-use Rattle.cover.specs.Filled.{noMasks}
+use Rattle.cover.specs.Masks.{masks_of}
+use Rattle.cover.specs.Filled.{no_masks}
 use Rattle.cover.proofs.Masks.{row-few}
 use Rattle.cover.proofs.Fill.{rows_to, rows_none, rows-room, rows_long, rows-put, rows-count}
 use Rattle.cover.proofs.inner.masks_of.Statement.{statement}
 use Rattle.cover.proofs.inner.masks_of.Tie as tie
 
 abbrev invariant-loop : tie.invariant-loop
-invariant-loop goal table tests columns list₀ count₀ a₀ list count a = (a ≤ columns) × (count ≡ length (rows_to (cell_at table.cells) tests goal columns a)) × (list ≡ onto (rows_to (cell_at table.cells) tests goal columns a) noMasks)
+invariant-loop goal table tests columns list₀ count₀ a₀ list count a = (a ≤ columns) × (count ≡ length (rows_to (cell_at table.cells) tests goal columns a)) × (list ≡ onto (rows_to (cell_at table.cells) tests goal columns a) no_masks)
 
 abbrev decreases-loop : tie.decreases-loop
 decreases-loop goal table tests columns list₀ count₀ a₀ list count a = columns - a
@@ -30,8 +30,8 @@ add-columns : tie.Need-overflow-add-columns invariant-loop decreases-loop
 add-columns c = search rules
 
 loop-holds : tie.Need-loop-init invariant-loop decreases-loop
-unfolding noMasks
-loop-holds c = (search rules, rw rows_none, rw (rows_none, onto-none))
+unfolding no_masks
+loop-holds c = (search rules, rw rows_none, rw (rows_none, onto_none))
 
 mul-list : tie.Need-overflow-mul-list invariant-loop decreases-loop
 mul-list c = omega (arith, room c.before.before)
@@ -66,7 +66,7 @@ loop-again c =
     )
 
 returns : tie.Need-returns invariant-loop decreases-loop
-unfolding masksOf rows_to
+unfolding masks_of rows_to
 returns c =
     let e : c.before.loop.a ≡ c.before.before.args.t1.faults + 1 = omega (arith, c.before.loop.invariant.0, c.loop-test.false) in
     record { count = rw e at c.before.loop.invariant.1; list = rw e at c.before.loop.invariant.2 }

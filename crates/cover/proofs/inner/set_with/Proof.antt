@@ -1,6 +1,6 @@
 use native.Mathlib.Omega.{arith}
 use borrow.Author.Rules.{rules}
-use Rattle.sets.proofs.Collect.{with_in, with_out, one_shl, top-fits}
+use Rattle.sets.proofs.Collect.{with_in, with_out, one_shl, top_fits}
 use Rattle.cover.proofs.inner.set_with.Statement.{statement}
 use Rattle.cover.proofs.inner.set_with.Tie as tie
 
@@ -11,7 +11,7 @@ shl-result : tie.Need-overflow-shl-result
 shl-result c = search rules
 
 add-result : tie.Need-overflow-add-result
-add-result c = rw (one_shl 32 c.before.args.t (omega arith)) (omega (arith, top-fits 24 _ _ c.before.requires.0 c.before.requires.1))
+add-result c = rw (one_shl 32 c.before.args.t (omega arith)) (omega (arith, top_fits 24 _ _ c.before.requires.0 c.before.requires.1))
 
 returns : tie.Need-returns
 returns c = rw (one_shl 32 c.before.args.t (omega arith), c.if1.true, with_in)

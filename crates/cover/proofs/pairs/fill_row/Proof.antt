@@ -6,7 +6,7 @@ use native.Mathlib.Omega.{arith}
 use borrow.Author.Rules.{rules}
 use lib.ListN.{length}
 use Rattle.folds.specs.Fold.{count, gather, onto}
-use Rattle.folds.proofs.Count.{count-start, count-up, count-on, count-end, count_fits}
+use Rattle.folds.proofs.Count.{count_start, count_up, count_on, count_end, count_fits}
 use Rattle.folds.proofs.Gather.{gather-start, gather-store, gather-pass, gather-end, gather-length}
 use Rattle.folds.proofs.Onto.{keeps}
 use Rattle.table.specs.Table.{cell_at}
@@ -37,7 +37,7 @@ room c =
     )
 
 loop-holds : tie.Need-loop-init invariant-loop decreases-loop
-loop-holds c = (search rules, count-start _, gather-start _ _ _, refl)
+loop-holds c = (search rules, count_start _, gather-start _ _ _, refl)
 
 goal-mask-requires : tie.Need-goal-mask-requires invariant-loop decreases-loop
 goal-mask-requires c κs = search rules
@@ -62,8 +62,8 @@ loop-again c =
     let l = c.before.before.before.loop in
     let mask = c.before.goal-mask.ensures in (
       search rules,
-      ⊎_elim (λ w. count-up _ _ _ _ true l.invariant.1 (sym (counts-yes _ _ _ _ _ _ mask w.0.taken)) refl w.2)
-          (λ w. count-on _ _ _ _ false l.invariant.1 (sym (counts-no _ _ _ _ _ _ mask w.0.left)) refl w.2) c.if1.branch,
+      ⊎_elim (λ w. count_up _ _ _ _ true l.invariant.1 (sym (counts-yes _ _ _ _ _ _ mask w.0.taken)) refl w.2)
+          (λ w. count_on _ _ _ _ false l.invariant.1 (sym (counts-no _ _ _ _ _ _ mask w.0.left)) refl w.2) c.if1.branch,
       ⊎_elim (λ w. gather-store _ _ _ _ _ true _ _ _ l.invariant.2 l.invariant.1 (room record { before = c.before; if1 = w.0 }) l.invariant.3 (sym (counts-yes _ _ _ _ _ _ mask w.0.taken)) refl mask w.1)
           (λ w. gather-pass _ _ _ false _ _ _ l.invariant.2 (sym (counts-no _ _ _ _ _ _ mask w.0.left)) refl w.1) c.if1.branch,
       ⊎_elim (λ w. search keeps) (λ w. search keeps) c.if1.branch,
@@ -76,7 +76,7 @@ returns : tie.Need-returns invariant-loop decreases-loop
 unfolding maskRow
 returns c =
     let l = c.before.loop in (
-      count-end _ _ _ _ l.invariant.0 c.loop-test.false l.invariant.1 ∙ sym (gather-length _ _ _),
+      count_end _ _ _ _ l.invariant.0 c.loop-test.false l.invariant.1 ∙ sym (gather-length _ _ _),
       gather-end _ _ _ _ _ _ l.invariant.2 l.invariant.0 c.loop-test.false,
     )
 

@@ -2,15 +2,15 @@ use mathlib.Core.Path.{◌≡◌}
 use Prim.Native.Nat.{◌≤◌, ◌-◌}
 use borrow.Author.Rules.{rules}
 use Rattle.sets.proofs.Collect.{set-turn, collects, set-start}
-use Rattle.sets.specs.Collect.{setOf}
+use Rattle.sets.specs.Collect.{set_of}
 use Rattle.table.specs.Table.{cell_at, separates}
-use Rattle.table.proofs.Cells.{separates-by}
+use Rattle.table.proofs.Cells.{separates_by}
 use Rattle.cover.specs.Masks.{mask_of}
 use Rattle.cover.proofs.pairs.mask_of.Statement.{statement}
 use Rattle.cover.proofs.pairs.mask_of.Tie as tie
 
 abbrev invariant-loop : tie.invariant-loop
-invariant-loop cells tests a b mask₀ i₀ mask i = (i ≤ tests) × (mask ≡ setOf (separates (cell_at cells) a b) i)
+invariant-loop cells tests a b mask₀ i₀ mask i = (i ≤ tests) × (mask ≡ set_of (separates (cell_at cells) a b) i)
 
 abbrev decreases-loop : tie.decreases-loop
 decreases-loop cells tests a b mask₀ i₀ mask i = tests - i
@@ -33,7 +33,7 @@ loop-less c = search rules
 loop-again : tie.Need-loop-preserved invariant-loop decreases-loop
 loop-again c = (
   search rules,
-  set-turn _ _ _ _ _ c.before.before.before.loop.invariant.1 (separates-by _ _ _ _ _ c.before.agrees.ensures) c.set-with.ensures,
+  set-turn _ _ _ _ _ c.before.before.before.loop.invariant.1 (separates_by _ _ _ _ _ c.before.agrees.ensures) c.set-with.ensures,
 )
 
 returns : tie.Need-returns invariant-loop decreases-loop

@@ -3,12 +3,12 @@ use Prim.Native.Nat.{◌≤◌, ◌-◌}
 use borrow.Author.Rules.{rules}
 use Rattle.sets.proofs.Collect.{set-turn, collects, set-start}
 use Rattle.cover.specs.Kept.{lone}
-use Rattle.sets.specs.Collect.{setOf}
+use Rattle.sets.specs.Collect.{set_of}
 use Rattle.cover.proofs.weigh.lone_tests.Statement.{statement}
 use Rattle.cover.proofs.weigh.lone_tests.Tie as tie
 
 abbrev invariant-loop : tie.invariant-loop
-invariant-loop masks kept tests set₀ i₀ set i = (i ≤ tests) × (set ≡ setOf (lone masks kept) i)
+invariant-loop masks kept tests set₀ i₀ set i = (i ≤ tests) × (set ≡ set_of (lone masks kept) i)
 
 abbrev decreases-loop : tie.decreases-loop
 decreases-loop masks kept tests set₀ i₀ set i = tests - i

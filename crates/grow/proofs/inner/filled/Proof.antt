@@ -4,7 +4,7 @@ use native.Mathlib.Numerals.{add-one}
 use native.Mathlib.Omega.{arith}
 use borrow.Author.Rules.{rules}
 use Rattle.grow.specs.Grow.{filled}
-use Rattle.table.proofs.Cells.{place-below}
+use Rattle.table.proofs.Cells.{place_below}
 use Rattle.grow.proofs.inner.filled.Statement.{statement}
 use Rattle.grow.proofs.inner.filled.Tie as tie
 
@@ -25,7 +25,7 @@ place-requires : tie.Need-place-requires invariant-loop decreases-loop
 place-requires c κs = search rules
 
 array-write-next : tie.Need-array-write-next invariant-loop decreases-loop
-array-write-next c = let h = place-below _ _ _ c.place.ensures (omega arith) (omega arith) in search rules
+array-write-next c = let h = place_below _ _ _ c.place.ensures (omega arith) (omega arith) in search rules
 
 add-t : tie.Need-overflow-add-t invariant-loop decreases-loop
 add-t c = search rules

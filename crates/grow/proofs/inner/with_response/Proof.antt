@@ -1,6 +1,6 @@
 use native.Mathlib.Omega.{arith}
 use borrow.Author.Rules.{rules}
-use Rattle.table.proofs.Cells.{place-below}
+use Rattle.table.proofs.Cells.{place_below}
 use Rattle.grow.proofs.inner.with_response.Statement.{statement}
 use Rattle.grow.proofs.inner.with_response.Tie as tie
 
@@ -11,7 +11,7 @@ place-requires : tie.Need-place-requires
 place-requires c κs = search rules
 
 element-write-next : tie.Need-element-write-next
-element-write-next c = let h = place-below _ _ _ c.place.ensures (omega arith) (omega arith) in search rules
+element-write-next c = let h = place_below _ _ _ c.place.ensures (omega arith) (omega arith) in search rules
 
 returns : tie.Need-returns
 returns c = rw c.place.ensures

@@ -1,5 +1,5 @@
 use borrow.Author.Rules.{rules}
-use Rattle.table.proofs.Cells.{place-below}
+use Rattle.table.proofs.Cells.{place_below}
 use Rattle.grow.proofs.inner.with_test.Statement.{statement}
 use Rattle.grow.proofs.inner.with_test.Tie as tie
 
@@ -7,7 +7,7 @@ place-requires : tie.Need-place-requires
 place-requires c κs = search rules
 
 element-write-next : tie.Need-element-write-next
-element-write-next c = search (rules, place-below)
+element-write-next c = search (rules, place_below)
 
 add-next : tie.Need-overflow-add-next
 add-next c = search rules

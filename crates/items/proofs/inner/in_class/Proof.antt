@@ -1,5 +1,5 @@
 use borrow.Author.Rules.{rules}
-use Rattle.items.specs.Inner.{inClass}
+use Rattle.items.specs.Inner.{in_class}
 use Rattle.items.proofs.inner.in_class.Statement.{statement}
 use Rattle.items.proofs.inner.in_class.Tie as tie
 
@@ -10,7 +10,7 @@ wide-requires : tie.Need-wide-requires
 wide-requires c κs = search rules
 
 returns : tie.Need-returns
-unfolding inClass
+unfolding in_class
 returns c = rw c.wide.ensures
 
 pub in-class-spec : {M : Type 1} → statement M

@@ -1,5 +1,5 @@
 use borrow.Author.Rules.{rules}
-use Rattle.items.proofs.Pieces.{member-good, member-fault}
+use Rattle.items.proofs.Pieces.{member_good, member_fault}
 use Rattle.items.proofs.inner.member.Statement.{statement}
 use Rattle.items.proofs.inner.member.Tie as tie
 
@@ -13,7 +13,7 @@ same_length : tie.Need-same-length
 same_length c = search rules
 
 returns : tie.Need-returns
-returns c = search member-good
+returns c = search member_good
 
 sub-f : tie.Need-overflow-sub-f
 sub-f c = search rules
@@ -43,7 +43,7 @@ same-length-2 : tie.Need-same-length-2
 same-length-2 c = search rules
 
 returns-2 : tie.Need-returns-2
-returns-2 c = search member-fault
+returns-2 c = search member_fault
 
 pub member-spec : {M : Type 1} → statement M
 member-spec =

@@ -4,13 +4,13 @@ use borrow.Author.Rules.{rules}
 use Rattle.folds.specs.Fold.{joined}
 use Rattle.text.proofs.Items.{items, items-start}
 use Rattle.text.specs.Writes.{Writes}
-use Rattle.items.specs.Inner.{inClass, membersText}
-use Rattle.items.specs.Items.{memberText}
+use Rattle.items.specs.Inner.{in_class, members_text}
+use Rattle.items.specs.Items.{member_text}
 use Rattle.items.proofs.inner.members.Statement.{statement}
 use Rattle.items.proofs.inner.members.Tie as tie
 
 abbrev invariant-loop : tie.invariant-loop
-invariant-loop buf₀ at lines stuck of columns k next₀ c₀ buf next c = (c ≤ columns) × Writes at (joined (inClass of k) (memberText lines stuck) c) buf₀ next buf
+invariant-loop buf₀ at lines stuck of columns k next₀ c₀ buf next c = (c ≤ columns) × Writes at (joined (in_class of k) (member_text lines stuck) c) buf₀ next buf
 
 abbrev decreases-loop : tie.decreases-loop
 decreases-loop buf₀ at lines stuck of columns k next₀ c₀ buf next c = columns - c
@@ -37,7 +37,7 @@ same_length : tie.Need-same-length invariant-loop decreases-loop
 same_length c = search items
 
 returns : tie.Need-returns invariant-loop decreases-loop
-unfolding membersText
+unfolding members_text
 returns c = search items
 
 pub members-spec : {M : Type 1} → statement M

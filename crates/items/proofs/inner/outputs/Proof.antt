@@ -6,12 +6,12 @@ use Rattle.text.proofs.Items.{items, items-start}
 use Rattle.text.specs.Writes.{Writes}
 use Rattle.sets.specs.Sets.{has}
 use Rattle.table.specs.Table.{cell_at}
-use Rattle.items.specs.Inner.{outputItem}
+use Rattle.items.specs.Inner.{output_item}
 use Rattle.items.proofs.inner.outputs.Statement.{statement}
 use Rattle.items.proofs.inner.outputs.Tie as tie
 
 abbrev invariant-loop : tie.invariant-loop
-invariant-loop buf₀ at cells tests set c next₀ i₀ buf next i = (i ≤ tests) × Writes at (joined (has set) (outputItem (cell_at cells) c) i) buf₀ next buf
+invariant-loop buf₀ at cells tests set c next₀ i₀ buf next i = (i ≤ tests) × Writes at (joined (has set) (output_item (cell_at cells) c) i) buf₀ next buf
 
 abbrev decreases-loop : tie.decreases-loop
 decreases-loop buf₀ at cells tests set c next₀ i₀ buf next i = tests - i

@@ -1,5 +1,5 @@
 use borrow.Author.Rules.{rules}
-use Rattle.items.specs.Inner.{signatureText}
+use Rattle.items.specs.Inner.{signature_text}
 use Rattle.items.proofs.Pieces.{list-none, list-some}
 use Rattle.items.proofs.inner.signature.Statement.{statement}
 use Rattle.items.proofs.inner.signature.Tie as tie
@@ -14,7 +14,7 @@ same_length : tie.Need-same-length
 same_length c = search rules
 
 returns : tie.Need-returns
-unfolding signatureText
+unfolding signature_text
 returns c = search list-none
 
 outputs-requires : tie.Need-outputs-requires
@@ -24,7 +24,7 @@ same-length-2 : tie.Need-same-length-2
 same-length-2 c = search rules
 
 returns-2 : tie.Need-returns-2
-unfolding signatureText
+unfolding signature_text
 returns-2 c = search list-some
 
 pub signature-spec : {M : Type 1} → statement M

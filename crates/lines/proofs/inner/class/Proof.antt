@@ -1,5 +1,5 @@
 use borrow.Author.Rules.{rules}
-use Rattle.lines.proofs.Pieces.{class-done}
+use Rattle.lines.proofs.Pieces.{class_done}
 use Rattle.lines.proofs.inner.class.Statement.{statement}
 use Rattle.lines.proofs.inner.class.Tie as tie
 
@@ -22,7 +22,7 @@ same_length : tie.Need-same-length
 same_length c = search rules
 
 returns : tie.Need-returns
-returns c = search class-done
+returns c = search class_done
 
 pub class-spec : {M : Type 1} → statement M
 class-spec =

@@ -1,5 +1,5 @@
 use borrow.Author.Rules.{rules}
-use Rattle.lines.proofs.Pieces.{tail-done}
+use Rattle.lines.proofs.Pieces.{tail_done}
 use Rattle.lines.proofs.inner.class_tail.Statement.{statement}
 use Rattle.lines.proofs.inner.class_tail.Tie as tie
 
@@ -22,7 +22,7 @@ same_length : tie.Need-same-length
 same_length c = search rules
 
 returns : tie.Need-returns
-returns c = search tail-done
+returns c = search tail_done
 
 pub class-tail-spec : {M : Type 1} → statement M
 class-tail-spec =

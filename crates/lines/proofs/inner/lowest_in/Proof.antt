@@ -3,12 +3,12 @@ use Prim.Native.Nat.{◌≤◌, ◌-◌}
 use borrow.Author.Rules.{rules}
 use Rattle.folds.specs.Fold.{first}
 use Rattle.folds.proofs.First.{seek}
-use Rattle.items.specs.Inner.{inClass}
+use Rattle.items.specs.Inner.{in_class}
 use Rattle.lines.proofs.inner.lowest_in.Statement.{statement}
 use Rattle.lines.proofs.inner.lowest_in.Tie as tie
 
 abbrev invariant-loop : tie.invariant-loop
-invariant-loop of columns k i₀ i = (i ≤ columns) × (first (inClass of k) i ≡ i)
+invariant-loop of columns k i₀ i = (i ≤ columns) × (first (in_class of k) i ≡ i)
 
 abbrev decreases-loop : tie.decreases-loop
 decreases-loop of columns k i₀ i = columns - i

@@ -1,5 +1,5 @@
 use borrow.Author.Rules.{rules}
-use Rattle.lines.proofs.Pieces.{sets-done}
+use Rattle.lines.proofs.Pieces.{sets_done}
 use Rattle.lines.proofs.inner.sets.Statement.{statement}
 use Rattle.lines.proofs.inner.sets.Tie as tie
 
@@ -31,7 +31,7 @@ same_length : tie.Need-same-length
 same_length c = search rules
 
 returns : tie.Need-returns
-returns c = search sets-done
+returns c = search sets_done
 
 pub sets-spec : {M : Type 1} → statement M
 sets-spec =

@@ -1,6 +1,6 @@
 use borrow.Author.Rules.{rules}
-use Rattle.lines.proofs.Numbers.{none-empty}
-use Rattle.lines.proofs.Pieces.{formed-faults, formed-tests, table_done}
+use Rattle.lines.proofs.Numbers.{none_empty}
+use Rattle.lines.proofs.Pieces.{formed_faults, formed_tests, table_done}
 use Rattle.lines.proofs.inner.table.Statement.{statement}
 use Rattle.lines.proofs.inner.table.Tie as tie
 
@@ -14,7 +14,7 @@ sets-requires : tie.Need-sets-requires
 sets-requires c κs = search rules
 
 classes-requires : tie.Need-classes-requires
-classes-requires c κs = (search formed-tests, search formed-faults, search none-empty)
+classes-requires c κs = (search formed_tests, search formed_faults, search none_empty)
 
 same_length : tie.Need-same-length
 same_length c = search rules

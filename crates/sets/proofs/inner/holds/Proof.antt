@@ -1,5 +1,5 @@
 use borrow.Author.Rules.{rules}
-use Rattle.sets.proofs.Bits.{has-shift}
+use Rattle.sets.proofs.Bits.{has_shift}
 use Rattle.sets.proofs.inner.holds.Statement.{statement}
 use Rattle.sets.proofs.inner.holds.Tie as tie
 
@@ -7,7 +7,7 @@ shr-result : tie.Need-overflow-shr-result
 shr-result c = search rules
 
 returns : tie.Need-returns
-returns c = has-shift _ _
+returns c = has_shift _ _
 
 pub holds-spec : {M : Type 1} → statement M
 holds-spec = tie.close (tie.spec shr-result returns)

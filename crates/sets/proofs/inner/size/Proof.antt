@@ -4,7 +4,7 @@ use Prim.Native.Nat.{◌≤◌, ◌-◌}
 use native.Mathlib.Omega.{arith}
 use borrow.Author.Rules.{rules}
 use Rattle.folds.specs.Fold.{count}
-use Rattle.folds.proofs.Count.{tally, count_fits, count-start}
+use Rattle.folds.proofs.Count.{tally, count_fits, count_start}
 use Rattle.sets.specs.Sets.{has}
 use Rattle.sets.proofs.inner.size.Statement.{statement}
 use Rattle.sets.proofs.inner.size.Tie as tie
@@ -16,7 +16,7 @@ abbrev decreases-loop : tie.decreases-loop
 decreases-loop set n held₀ i₀ held i = n - i
 
 loop-holds : tie.Need-loop-init invariant-loop decreases-loop
-loop-holds c = (search rules, count-start _)
+loop-holds c = (search rules, count_start _)
 
 holds-requires : tie.Need-holds-requires invariant-loop decreases-loop
 holds-requires c κs = search rules

@@ -1,5 +1,5 @@
 use borrow.Author.Rules.{rules}
-use Rattle.suspects.proofs.Answers.{output-there, answer-other, answer-held}
+use Rattle.suspects.proofs.Answers.{output_there, answer-other, answer-held}
 use Rattle.suspects.proofs.compare.answers.Statement.{statement}
 use Rattle.suspects.proofs.compare.answers.Tie as tie
 
@@ -13,7 +13,7 @@ cell-requires : tie.Need-cell-requires
 cell-requires c κs = search rules
 
 shared-slice-read-result : tie.Need-shared-slice-read-result
-shared-slice-read-result c = search output-there
+shared-slice-read-result c = search output_there
 
 returns-2 : tie.Need-returns-2
 returns-2 c = search answer-held

@@ -1,6 +1,6 @@
 use borrow.Author.Tests.{le-leb, lt-leb, lt-ltb, le-ltb, eq-eqb, ne_eqb}
 use borrow.Author.Rules.{rules}
-use Rattle.table.specs.Form.{labelRight}
+use Rattle.table.specs.Form.{label_right}
 use Rattle.table.proofs.form.label_right.Statement.{statement}
 use Rattle.table.proofs.form.label_right.Tie as tie
 
@@ -8,21 +8,21 @@ element-copy-out-if2 : tie.Need-element-copy-out-if2
 element-copy-out-if2 c = search rules
 
 returns : tie.Need-returns
-unfolding labelRight
+unfolding label_right
 returns c = simp (le-ltb _ _ c.before.before.if1.true, ne_eqb _ _ c.if2.true)
 
 element-copy-out-result : tie.Need-element-copy-out-result
 element-copy-out-result c = search rules
 
 returns-2 : tie.Need-returns-2
-unfolding labelRight
+unfolding label_right
 returns-2 c = simp (le-ltb _ _ c.before.before.before.if1.true, eq-eqb _ _ c.before.if2.false)
 
 element-copy-out-if3 : tie.Need-element-copy-out-if3
 element-copy-out-if3 c = search rules
 
 returns-3 : tie.Need-returns-3
-unfolding labelRight
+unfolding label_right
 returns-3 c = simp (lt-ltb _ _ c.before.before.if1.false, lt-leb _ _ c.if3.true)
 
 element-copy-out-new-label : tie.Need-element-copy-out-new-label
@@ -35,7 +35,7 @@ new-label-requires : tie.Need-new-label-requires
 new-label-requires c κs = search rules
 
 returns-4 : tie.Need-returns-4
-unfolding labelRight
+unfolding label_right
 returns-4 c = simp (lt-ltb _ _ c.before.before.before.before.before.if1.false, le-leb _ _ c.before.before.before.if3.false, c.new-label.ensures)
 
 pub label-right-spec : {M : Type 1} → statement M

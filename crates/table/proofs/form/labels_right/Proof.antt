@@ -2,14 +2,14 @@ use mathlib.Core.Path.{◌≡◌}
 use mathlib.Core.Bool.{true}
 use Prim.Native.Nat.{◌≤◌, ◌-◌}
 use borrow.Author.Rules.{rules}
-use Rattle.table.specs.Form.{labelRight}
+use Rattle.table.specs.Form.{label_right}
 use Rattle.folds.specs.Fold.{every}
 use Rattle.folds.proofs.Every.{scan}
 use Rattle.table.proofs.form.labels_right.Statement.{statement}
 use Rattle.table.proofs.form.labels_right.Tie as tie
 
 abbrev invariant-loop : tie.invariant-loop
-invariant-loop lines stuck faults i₀ i = (i ≤ 60) × (every (labelRight lines stuck faults) i ≡ true)
+invariant-loop lines stuck faults i₀ i = (i ≤ 60) × (every (label_right lines stuck faults) i ≡ true)
 
 abbrev decreases-loop : tie.decreases-loop
 decreases-loop lines stuck faults i₀ i = 60 - i

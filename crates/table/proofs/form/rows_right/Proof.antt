@@ -2,14 +2,14 @@ use mathlib.Core.Path.{◌≡◌}
 use mathlib.Core.Bool.{true}
 use Prim.Native.Nat.{◌≤◌, ◌-◌}
 use borrow.Author.Rules.{rules}
-use Rattle.table.specs.Form.{rowRight}
+use Rattle.table.specs.Form.{row_right}
 use Rattle.folds.specs.Fold.{every}
 use Rattle.folds.proofs.Every.{scan}
 use Rattle.table.proofs.form.rows_right.Statement.{statement}
 use Rattle.table.proofs.form.rows_right.Tie as tie
 
 abbrev invariant-loop : tie.invariant-loop
-invariant-loop cells tests faults i₀ i = (i ≤ 24) × (every (rowRight cells tests faults) i ≡ true)
+invariant-loop cells tests faults i₀ i = (i ≤ 24) × (every (row_right cells tests faults) i ≡ true)
 
 abbrev decreases-loop : tie.decreases-loop
 decreases-loop cells tests faults i₀ i = 24 - i

@@ -1,7 +1,7 @@
 use native.Mathlib.Omega.{arith}
 use borrow.Author.Rules.{rules}
 use Rattle.table.specs.Table.{cell_at}
-use Rattle.table.proofs.Cells.{place-fits}
+use Rattle.table.proofs.Cells.{place_fits}
 use Rattle.table.proofs.inner.cell.Statement.{statement}
 use Rattle.table.proofs.inner.cell.Tie as tie
 
@@ -9,7 +9,7 @@ place-requires : tie.Need-place-requires
 place-requires c κs = search rules
 
 element-copy-out-result : tie.Need-element-copy-out-result
-element-copy-out-result c = omega (arith, c.place.ensures, place-fits c.before.args.t c.before.args.c c.before.requires.0 c.before.requires.1)
+element-copy-out-result c = omega (arith, c.place.ensures, place_fits c.before.args.t c.before.args.c c.before.requires.0 c.before.requires.1)
 
 returns : tie.Need-returns
 unfolding cell_at

@@ -1,10 +1,10 @@
 use borrow.Author.Rules.{rules}
-use Rattle.text.proofs.Writes.{put-past}
+use Rattle.text.proofs.Writes.{put_past}
 use Rattle.text.proofs.inner.put.Statement.{statement}
 use Rattle.text.proofs.inner.put.Tie as tie
 
 returns : tie.Need-returns
-returns c = search put-past
+returns c = search put_past
 
 slice-write-buf : tie.Need-slice-write-buf
 slice-write-buf c = search rules

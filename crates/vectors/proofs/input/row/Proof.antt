@@ -1,7 +1,7 @@
 use Prim.Native.Nat.{◌≤◌, ◌-◌}
 use native.Mathlib.Omega.{arith}
 use borrow.Author.Rules.{rules}
-use Rattle.table.proofs.Cells.{place-below}
+use Rattle.table.proofs.Cells.{place_below}
 use Rattle.vectors.proofs.input.row.Statement.{statement}
 use Rattle.vectors.proofs.input.row.Tie as tie
 
@@ -30,7 +30,7 @@ byte-requires : tie.Need-byte-requires invariant-loop decreases-loop
 byte-requires c κs = search rules
 
 array-write-next : tie.Need-array-write-next invariant-loop decreases-loop
-array-write-next c = place-below _ _ _ c.before.place.ensures (omega arith) (omega arith)
+array-write-next c = place_below _ _ _ c.before.place.ensures (omega arith) (omega arith)
 
 add-c : tie.Need-overflow-add-c invariant-loop decreases-loop
 add-c c = search rules

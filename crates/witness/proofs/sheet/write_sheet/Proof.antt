@@ -5,7 +5,7 @@ use borrow.Author.Rules.{rules}
 use lib.ListN.{length}
 use Rattle.folds.specs.Fold.{count, joined, onto}
 use Rattle.folds.proofs.Joined.{rows-zero, rows_start, rows-room, rows_at, rows_stay, rows-put, rows_pass, rows_end}
-use Rattle.folds.proofs.Onto.{keeps, part_length, kept-part, part-fits}
+use Rattle.folds.proofs.Onto.{keeps, part_length, kept_part, part_fits}
 use Rattle.table.specs.Table.{cell_at}
 use Rattle.terms.specs.Columns.{lowest}
 use Rattle.witness.specs.Witness.{witnesses}
@@ -37,7 +37,7 @@ sub-left : tie.Need-overflow-sub-left invariant-loop decreases-loop
 sub-left c = search (left-some, low-in)
 
 add-end : tie.Need-overflow-add-end invariant-loop decreases-loop
-add-end c = search (part-fits, rows-room, left-size, low-in)
+add-end c = search (part_fits, rows-room, left-size, low-in)
 
 sub-write-row : tie.Need-overflow-sub-write-row invariant-loop decreases-loop
 sub-write-row c = search rules
@@ -63,7 +63,7 @@ loop-again c = (
   ⊎_elim (λ w. search (left-yes, low-in)) (λ w. search (left-no, low-in)) c.if1.branch,
   ⊎_elim (λ w. search (rows_at, left-size, low-in)) (λ w. search (rows_stay, low-in)) c.if1.branch,
   ⊎_elim (λ w. search (rows-put, left-size, low-in)) (λ w. search (rows_pass, low-in)) c.if1.branch,
-  ⊎_elim (λ w. search kept-part) (λ w. search keeps) c.if1.branch,
+  ⊎_elim (λ w. search kept_part) (λ w. search keeps) c.if1.branch,
 )
 
 same_length : tie.Need-same-length invariant-loop decreases-loop

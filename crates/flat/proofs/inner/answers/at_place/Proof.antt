@@ -1,5 +1,5 @@
 use borrow.Author.Rules.{rules}
-use Rattle.flat.proofs.Numbers.{place-packed}
+use Rattle.flat.proofs.Numbers.{place_packed}
 use Rattle.flat.proofs.inner.answers.at_place.Statement.{statement}
 use Rattle.flat.proofs.inner.answers.at_place.Tie as tie
 
@@ -16,7 +16,7 @@ add-result : tie.Need-overflow-add-result
 add-result c = search rules
 
 returns : tie.Need-returns
-returns c = search place-packed
+returns c = search place_packed
 
 pub at-place-spec : {M : Type 1} → statement M
 at-place-spec = tie.close (tie.spec number-requires cast-result mul-result add-result returns)

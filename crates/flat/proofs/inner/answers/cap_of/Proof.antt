@@ -1,5 +1,5 @@
 use borrow.Author.Rules.{rules}
-use Rattle.flat.proofs.Numbers.{cap-high, cap-low}
+use Rattle.flat.proofs.Numbers.{cap_high, cap_low}
 use Rattle.flat.proofs.inner.answers.cap_of.Statement.{statement}
 use Rattle.flat.proofs.inner.answers.cap_of.Tie as tie
 
@@ -10,13 +10,13 @@ add-result : tie.Need-overflow-add-result
 add-result c = search rules
 
 returns : tie.Need-returns
-returns c = search cap-high
+returns c = search cap_high
 
 cast-result : tie.Need-overflow-cast-result
 cast-result c = search rules
 
 returns-2 : tie.Need-returns-2
-returns-2 c = search cap-low
+returns-2 c = search cap_low
 
 pub cap-of-spec : {M : Type 1} → statement M
 cap-of-spec = tie.close (tie.spec cast-if1 add-result returns cast-result returns-2)

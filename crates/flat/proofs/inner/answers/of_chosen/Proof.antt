@@ -1,5 +1,5 @@
 use borrow.Author.Rules.{rules}
-use Rattle.flat.proofs.Numbers.{tests-packed, refusal-packed}
+use Rattle.flat.proofs.Numbers.{tests_packed, refusal_packed}
 use Rattle.flat.proofs.inner.answers.of_chosen.Statement.{statement}
 use Rattle.flat.proofs.inner.answers.of_chosen.Tie as tie
 
@@ -19,10 +19,10 @@ refused-requires : tie.Need-refused-requires
 refused-requires c κs = search rules
 
 returns : tie.Need-returns
-returns c = tests-packed _ _ c.before.answer.given.1
+returns c = tests_packed _ _ c.before.answer.given.1
 
 returns-2 : tie.Need-returns-2
-returns-2 c = search refusal-packed
+returns-2 c = search refusal_packed
 
 pub of-chosen-spec : {M : Type 1} → statement M
 of-chosen-spec =

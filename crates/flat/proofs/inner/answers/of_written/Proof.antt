@@ -1,6 +1,6 @@
 use borrow.Author.Rules.{rules}
 use native.Mathlib.Omega.{arith}
-use Rattle.flat.proofs.Numbers.{count-below, count-packed, unwritten-packed}
+use Rattle.flat.proofs.Numbers.{count-below, count-packed, unwritten_packed}
 use Rattle.flat.proofs.inner.answers.of_written.Statement.{statement}
 use Rattle.flat.proofs.inner.answers.of_written.Tie as tie
 
@@ -20,7 +20,7 @@ returns : tie.Need-returns
 returns c = search count-packed
 
 returns-2 : tie.Need-returns-2
-returns-2 c = search unwritten-packed
+returns-2 c = search unwritten_packed
 
 pub of-written-spec : {M : Type 1} → statement M
 of-written-spec =

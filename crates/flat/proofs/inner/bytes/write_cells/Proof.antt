@@ -4,9 +4,9 @@ use borrow.Author.Rules.{rules}
 use Rattle.folds.specs.Fold.{listed}
 use Rattle.table.specs.Table.{cell_at}
 use Rattle.text.specs.Writes.{Writes}
-use Rattle.text.proofs.Writes.{writes-length}
+use Rattle.text.proofs.Writes.{writes_length}
 use Rattle.flat.specs.Flat.{cell_of}
-use Rattle.flat.proofs.Written.{list-start, list-each, list-end, cell-at}
+use Rattle.flat.proofs.Written.{list-start, list-each, list-end, cell_at_place}
 use Rattle.flat.proofs.inner.bytes.write_cells.Statement.{statement}
 use Rattle.flat.proofs.inner.bytes.write_cells.Tie as tie
 
@@ -32,10 +32,10 @@ loop-less : tie.Need-loop-smaller invariant-loop decreases-loop
 loop-less c = search rules
 
 loop-again : tie.Need-loop-preserved invariant-loop decreases-loop
-loop-again c = (search rules, search (list-each, cell-at))
+loop-again c = (search rules, search (list-each, cell_at_place))
 
 same_length : tie.Need-same-length invariant-loop decreases-loop
-same_length c = search writes-length
+same_length c = search writes_length
 
 returns : tie.Need-returns invariant-loop decreases-loop
 returns c = search list-end

@@ -2,7 +2,7 @@ use Prim.Native.Nat.{◌≤◌, ◌-◌}
 use borrow.Author.Rules.{rules}
 use Rattle.folds.specs.Fold.{listed}
 use Rattle.text.specs.Writes.{Writes}
-use Rattle.text.proofs.Writes.{writes-length}
+use Rattle.text.proofs.Writes.{writes_length}
 use Rattle.flat.specs.Flat.{label_of}
 use Rattle.flat.proofs.Written.{list-start, list-each, list-end, label_at}
 use Rattle.flat.proofs.inner.bytes.write_labels.Statement.{statement}
@@ -33,7 +33,7 @@ loop-again : tie.Need-loop-preserved invariant-loop decreases-loop
 loop-again c = (search rules, search (list-each, label_at))
 
 same_length : tie.Need-same-length invariant-loop decreases-loop
-same_length c = search writes-length
+same_length c = search writes_length
 
 returns : tie.Need-returns invariant-loop decreases-loop
 returns c = search list-end

@@ -1,5 +1,5 @@
 use borrow.Author.Rules.{rules}
-use Rattle.flat.proofs.Written.{table-written}
+use Rattle.flat.proofs.Written.{table_written}
 use Rattle.flat.proofs.inner.bytes.write_table.Statement.{statement}
 use Rattle.flat.proofs.inner.bytes.write_table.Tie as tie
 
@@ -28,7 +28,7 @@ same_length : tie.Need-same-length
 same_length c = search rules
 
 returns : tie.Need-returns
-returns c = search table-written
+returns c = search table_written
 
 pub write-table-spec : {M : Type 1} → statement M
 write-table-spec =

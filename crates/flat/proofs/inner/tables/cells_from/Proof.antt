@@ -2,14 +2,14 @@ use mathlib.Core.Path.{◌≡◌}
 use Prim.Native.Nat.{◌≤◌, ◌-◌}
 use native.Mathlib.Omega.{arith}
 use borrow.Author.Rules.{rules}
-use Rattle.flat.specs.Flat.{cellsFilled}
+use Rattle.flat.specs.Flat.{cells_filled}
 use Rattle.flat.proofs.Fill.{cells-start, cells_store, cells-end}
-use Rattle.table.proofs.Cells.{place-below}
+use Rattle.table.proofs.Cells.{place_below}
 use Rattle.flat.proofs.inner.tables.cells_from.Statement.{statement}
 use Rattle.flat.proofs.inner.tables.cells_from.Tie as tie
 
 abbrev invariant-loop : tie.invariant-loop
-invariant-loop bytes cells₀ k₀ cells k = (k ≤ 1464) × (cells ≡ cellsFilled bytes k)
+invariant-loop bytes cells₀ k₀ cells k = (k ≤ 1464) × (cells ≡ cells_filled bytes k)
 
 abbrev decreases-loop : tie.decreases-loop
 decreases-loop bytes cells₀ k₀ cells k = 1464 - k
@@ -27,7 +27,7 @@ shared-slice-read-cells : tie.Need-shared-slice-read-cells invariant-loop decrea
 shared-slice-read-cells c = search rules
 
 array-write-cells : tie.Need-array-write-cells invariant-loop decreases-loop
-array-write-cells c = place-below _ _ _ c.before.place.ensures (omega arith) (omega arith)
+array-write-cells c = place_below _ _ _ c.before.place.ensures (omega arith) (omega arith)
 
 add-k : tie.Need-overflow-add-k invariant-loop decreases-loop
 add-k c = search rules

@@ -3,12 +3,12 @@ use Prim.Native.Nat.{◌≤◌, ◌-◌}
 use borrow.Author.Rules.{rules}
 use Rattle.folds.specs.Fold.{listed, onto}
 use Rattle.flat.specs.Flat.{byte_at}
-use Rattle.flat.proofs.Fill.{noLabels, labels-start, labels-store, labels-end}
+use Rattle.flat.proofs.Fill.{no_labels, labels-start, labels-store, labels-end}
 use Rattle.flat.proofs.inner.tables.labels_from.Statement.{statement}
 use Rattle.flat.proofs.inner.tables.labels_from.Tie as tie
 
 abbrev invariant-loop : tie.invariant-loop
-invariant-loop bytes from labels₀ f₀ labels f = (f ≤ 60) × (labels ≡ onto (listed (byte_at bytes from) f) noLabels)
+invariant-loop bytes from labels₀ f₀ labels f = (f ≤ 60) × (labels ≡ onto (listed (byte_at bytes from) f) no_labels)
 
 abbrev decreases-loop : tie.decreases-loop
 decreases-loop bytes from labels₀ f₀ labels f = 60 - f

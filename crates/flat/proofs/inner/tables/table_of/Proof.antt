@@ -1,5 +1,5 @@
 use borrow.Author.Rules.{rules}
-use Rattle.flat.proofs.Given.{table-right}
+use Rattle.flat.proofs.Given.{table_right}
 use Rattle.flat.proofs.inner.tables.table_of.Statement.{statement}
 use Rattle.flat.proofs.inner.tables.table_of.Tie as tie
 
@@ -28,7 +28,7 @@ empty-table-requires : tie.Need-empty-table-requires
 empty-table-requires c κs = search rules
 
 returns : tie.Need-returns
-returns c = search table-right
+returns c = search table_right
 
 pub table-of-spec : {M : Type 1} → statement M
 table-of-spec =
