@@ -13,10 +13,9 @@ use Rattle.folds.specs.Fold.{both, every, always, listed, onto}
 use Rattle.folds.proofs.Bools.{both_left, both_right}
 use Rattle.folds.proofs.Every.{every_at}
 use Rattle.folds.proofs.Gather.{gather-end, listed_start, listed-store}
-use Rattle.table.specs.Table.{place_of, empty_table, table_with}
-use Rattle.adder.specs.Adder.{adderOutput, adder_table, line_label, no_labels, row_filled, rows_filled, stuck_label}
-use Rattle.adder.specs.Filling.{correct_output, differing, differing_below, differing_in, nothing, responded, same}
-use Rattle.adder.specs.declared.Response.{Response}
+use Rattle.table.specs.Table.{place_of}
+use Rattle.adder.specs.Adder.{adderOutput, adder_table, answered, answers_below, answers_of, correct_output, differing, line_label, no_labels, nothing, row_filled, rows_filled, same, stuck_label}
+use Rattle.adder.specs.declared.Answer.{Answer}
 
 module _ (f : ℕ → ℕ → ℕ) (t : ℕ) (cells : List ℕ) where
   pub row-start : cells ≡ row_filled f t 0 cells
@@ -46,37 +45,37 @@ rows_end f t n s h k e = e ∙ ap (rows_filled f) (le_antisymm h k)
 
 -- ---- the answers over them
 
-pub responses_start : (s : List ℕ) → s ≡ rows_filled correct_output 8 → s ≡ responded 0
-unfolding responded
-responses_start s e = e
+pub answers_start : (s : List ℕ) → s ≡ rows_filled correct_output 8 → s ≡ answered 0
+unfolding answered
+answers_start s e = e
 
-pub responses_store : (i at : ℕ) (a : Response) (s : List ℕ) → s ≡ responded i → a ≡ get_or differing i nothing → at ≡ place_of a.0 (a.1 + 1) → set s at a.2 ≡ responded (i + 1)
-unfolding responded
-responses_store i at a s e ea ep = rw (add-one, e, ep, ea)
+pub answers_store : (i at : ℕ) (a : Answer) (s : List ℕ) → s ≡ answered i → a ≡ get_or differing i nothing → at ≡ place_of a.0 (a.1 + 1) → set s at a.2 ≡ answered (i + 1)
+unfolding answered
+answers_store i at a s e ea ep = rw (add-one, e, ep, ea)
 
-pub responses_end : (i n : ℕ) (s : List ℕ) → i ≤ n → n ≤ i → s ≡ responded i → s ≡ responded n
-responses_end i n s h k e = e ∙ ap responded (le_antisymm h k)
+pub answers_end : (i n : ℕ) (s : List ℕ) → i ≤ n → n ≤ i → s ≡ answered i → s ≡ answered n
+answers_end i n s h k e = e ∙ ap answered (le_antisymm h k)
 
 -- every answer is of one of the 8 tests and of one of the 10 faults
 small : ℕ → Bool
 small i = both (ltb (get_or differing i nothing).0 8) (ltb (get_or differing i nothing).1 10)
 
 all_small : every small 36 ≡ true
-unfolding every small differing differing_below differing_in adderOutput nothing line_label stuck_label
+unfolding every small differing answers_below answers_of adderOutput nothing
 all_small = refl
 
-module _ (i : ℕ) (a : Response) (e : a ≡ get_or differing i nothing) (l : i < 36) where
-  pub response-test : a.0 < 8
+module _ (i : ℕ) (a : Answer) (e : a ≡ get_or differing i nothing) (l : i < 36) where
+  pub answer-test : a.0 < 8
   unfolding small
-  response-test = rw e (ltb-true _ _ (both_left _ _ (every_at small 36 i all_small l)))
+  answer-test = rw e (ltb-true _ _ (both_left _ _ (every_at small 36 i all_small l)))
 
-  pub response-fault : a.1 < 10
+  pub answer-fault : a.1 < 10
   unfolding small
-  response-fault = rw e (ltb-true _ _ (both_right (ltb (get_or differing i nothing).0 8) _ (every_at small 36 i all_small l)))
+  answer-fault = rw e (ltb-true _ _ (both_right (ltb (get_or differing i nothing).0 8) _ (every_at small 36 i all_small l)))
 
 -- the 36 answers over the correct outputs give every cell of the gates: computed over the whole table
-pub gates_right : responded 36 ≡ rows_filled adderOutput 8
-unfolding responded rows_filled row_filled correct_output differing differing_below differing_in adderOutput nothing place_of line_label stuck_label
+pub gates_right : answered 36 ≡ rows_filled adderOutput 8
+unfolding answered rows_filled row_filled correct_output differing answers_below answers_of adderOutput nothing place_of
 gates_right = refl
 
 -- ---- the labels
@@ -93,7 +92,7 @@ module _ (g : ℕ → ℕ) where
   pub labels-store : (f v : ℕ) (s : List ℕ) → s ≡ onto (listed g f) no_labels → f < 10 → v ≡ g f → set s f v ≡ onto (listed g (f + 1)) no_labels
   labels-store f v s e l ev = rw e (listed-store g f no_labels v (omega (arith, labels_long)) ev)
 
-pub table_right : (cells lines stuck : List ℕ) (f : ℕ) → cells ≡ responded 36 → f ≤ 10 → 10 ≤ f → lines ≡ onto (listed line_label f) no_labels → stuck ≡ onto (listed stuck_label f) no_labels
-    → table_with empty_table 8 10 cells lines stuck ≡ adder_table
+pub table_right : (cells lines stuck : List ℕ) (f : ℕ) → cells ≡ answered 36 → f ≤ 10 → 10 ≤ f → lines ≡ onto (listed line_label f) no_labels → stuck ≡ onto (listed stuck_label f) no_labels
+    → record { tests = 8; faults = 10; cells = cells; lines = lines; stuck = stuck } ≡ adder_table
 unfolding adder_table
 table_right cells lines stuck f ec h k el es = rw (ec, gates_right, gather-end always line_label 10 f no_labels lines el h k, gather-end always stuck_label 10 f no_labels stuck es h k)

@@ -10,11 +10,11 @@ use Rattle.folds.specs.Fold.{always, every, joined, onto, single}
 use Rattle.folds.proofs.Every.{every_at}
 use Rattle.table.proofs.Formed.{formed}
 use Rattle.table.specs.Table.{cell_at, output_at, place_of}
-use Rattle.table.specs.Form.{cell_right, label_right, new_label, other_label, row_right, well_formed}
+use Rattle.table.specs.Test.{cell_right, differ, fresh, label_right, row_right, well_formed}
 use Rattle.table.specs.WellFormed.{WellFormed}
 
 passes : well_formed adder_table ≡ true
-unfolding well_formed label_right new_label other_label row_right cell_right every cell_at place_of adder_table rows_filled row_filled adderOutput line_label stuck_label no_labels onto joined single always
+unfolding well_formed label_right fresh differ row_right cell_right every cell_at place_of adder_table rows_filled row_filled adderOutput line_label stuck_label no_labels onto joined single always
 passes = refl
 
 pub adder_formed : WellFormed adder_table
@@ -27,7 +27,7 @@ right_row : ℕ → Bool
 right_row t = every (right t) 11
 
 all_right : every right_row 8 ≡ true
-unfolding right_row right every cell_at place_of adder_table rows_filled row_filled adderOutput line_label stuck_label
+unfolding right_row right every cell_at place_of adder_table rows_filled row_filled adderOutput
 all_right = refl
 
 pub adder_cell : (t c : ℕ) → t < 8 → c < 11 → output_at adder_table t c ≡ adderOutput t c

@@ -1,2 +1,1 @@
 pub mod Adder
-pub mod Filling

@@ -1,54 +1,53 @@
 // The full adder of document 004, Figure 1: its responses, built in, and its table.
 ghost use Rattle.std.specs.Prelude.{◌≡◌, ◌<◌, get_or};
-ghost use Rattle.adder.specs.Adder.{adderOutput, adder_table, line_label, row_filled, rows_filled, stuck_label};
-ghost use Rattle.adder.specs.Filling.{responded, correct_output, differing, nothing, same};
+ghost use Rattle.adder.specs.Adder.{adderOutput, adder_table, answered, correct_output, differing, line_label, nothing, row_filled, rows_filled, same, stuck_label};
 
 use table::Table;
 
 // Test, fault and output, where the output differs from the correct one.
 #[derive(Drop)]
-pub struct Response(pub u8, pub u8, pub u8);
+pub struct Answer(pub u8, pub u8, pub u8);
 
 const CORRECT: [u8; 8] = [0, 2, 2, 1, 2, 1, 1, 3];
 
 // In the book's order: by fault, then by test.
-const RESPONSES: [Response; 36] = [
-    Response(0, 0, 2),
-    Response(1, 0, 1),
-    Response(6, 0, 3),
-    Response(7, 0, 1),
-    Response(0, 1, 1),
-    Response(1, 1, 3),
-    Response(2, 1, 3),
-    Response(4, 1, 3),
-    Response(0, 2, 2),
-    Response(3, 2, 3),
-    Response(5, 2, 3),
-    Response(6, 2, 3),
-    Response(0, 3, 1),
-    Response(1, 3, 3),
-    Response(2, 3, 3),
-    Response(4, 3, 3),
-    Response(0, 4, 1),
-    Response(1, 4, 3),
-    Response(2, 4, 3),
-    Response(4, 4, 3),
-    Response(2, 5, 0),
-    Response(3, 5, 2),
-    Response(4, 5, 0),
-    Response(5, 5, 2),
-    Response(6, 6, 0),
-    Response(7, 6, 2),
-    Response(1, 7, 0),
-    Response(2, 7, 0),
-    Response(4, 7, 0),
-    Response(7, 7, 1),
-    Response(3, 8, 0),
-    Response(5, 8, 0),
-    Response(3, 9, 0),
-    Response(5, 9, 0),
-    Response(6, 9, 0),
-    Response(7, 9, 2),
+const ANSWERS: [Answer; 36] = [
+    Answer(0, 0, 2),
+    Answer(1, 0, 1),
+    Answer(6, 0, 3),
+    Answer(7, 0, 1),
+    Answer(0, 1, 1),
+    Answer(1, 1, 3),
+    Answer(2, 1, 3),
+    Answer(4, 1, 3),
+    Answer(0, 2, 2),
+    Answer(3, 2, 3),
+    Answer(5, 2, 3),
+    Answer(6, 2, 3),
+    Answer(0, 3, 1),
+    Answer(1, 3, 3),
+    Answer(2, 3, 3),
+    Answer(4, 3, 3),
+    Answer(0, 4, 1),
+    Answer(1, 4, 3),
+    Answer(2, 4, 3),
+    Answer(4, 4, 3),
+    Answer(2, 5, 0),
+    Answer(3, 5, 2),
+    Answer(4, 5, 0),
+    Answer(5, 5, 2),
+    Answer(6, 6, 0),
+    Answer(7, 6, 2),
+    Answer(1, 7, 0),
+    Answer(2, 7, 0),
+    Answer(4, 7, 0),
+    Answer(7, 7, 1),
+    Answer(3, 8, 0),
+    Answer(5, 8, 0),
+    Answer(3, 9, 0),
+    Answer(5, 9, 0),
+    Answer(6, 9, 0),
+    Answer(7, 9, 2),
 ];
 
 fn correct(t: usize) -> u8
@@ -58,11 +57,11 @@ fn correct(t: usize) -> u8
     CORRECT[t]
 }
 
-fn nth_response(i: usize) -> Response
+fn nth_answer(i: usize) -> Answer
     requires { i < 36 }
     ensures { result ≡ get_or differing i nothing }
 {
-    RESPONSES[i]
+    ANSWERS[i]
 }
 
 fn line_label(f: usize) -> u8
@@ -110,12 +109,12 @@ fn correct_cells() -> [u8; 1464]
 
 // The correct outputs with the 36 answers over them.
 fn adder_cells() -> [u8; 1464]
-    ensures { result ≡ responded 36 }
+    ensures { result ≡ answered 36 }
 {
     let mut cells = correct_cells();
     let mut i = 0;
     while i < 36 {
-        let a = nth_response(i);
+        let a = nth_answer(i);
         let at = table::inner::place(a.0 as usize, a.1 as usize + 1);
         cells[at] = a.2;
         i += 1;
@@ -135,11 +134,11 @@ pub fn full_adder() -> Table
         f += 1;
     }
     let cells = adder_cells();
-    let mut sample = table::empty_table();
-    sample.tests = 8;
-    sample.faults = 10;
-    sample.cells = cells;
-    sample.lines = lines;
-    sample.stuck = stuck;
-    sample
+    Table {
+        tests: 8,
+        faults: 10,
+        cells,
+        lines,
+        stuck,
+    }
 }

@@ -1,57 +1,60 @@
--- The loop over the steps: what has been read at its head is a start of the book. Assumes nothing.
+-- The loop over the steps: what is left to read gives the reading of the whole book. Assumes nothing.
 use mathlib.Core.List.{List}
-use mathlib.Core.Path.{◌≡◌, ap}
-use Prim.Native.Nat.{ℕ, ◌-◌, ◌<◌}
+use mathlib.Core.Path.{◌≡◌, refl}
+use Prim.Native.Nat.{ℕ, zero, suc, ◌+◌, ◌-◌, ◌<◌, ◌≤◌}
 use native.Mathlib.Omega.{arith}
 use lib.ListN.{length}
-use Rattle.table.specs.Answers.{number_of}
-use Rattle.table.specs.declared.Reading.{Reading}
 use Rattle.table.specs.declared.Refusal.{Refusal}
 use Rattle.table.proofs.Empty.{empty_formed}
-use Rattle.checks.specs.Cursor.{done}
-use Rattle.checks.specs.Reached.{begun, read}
-use Rattle.checks.proofs.Ends.{Advances, stops}
 use Rattle.records.specs.declared.Outcome.TheVariants.{Given, Accepted, Refused}
 use Rattle.records.specs.declared.Record.{Record}
 use Rattle.records.specs.declared.SoFar.{SoFar}
 use Rattle.records.specs.declared.Stepped.{Stepped}
-use Rattle.records.specs.Step.{start, said_by, stepAt}
-use Rattle.records.specs.Counts.{CountsFit}
-use Rattle.records.proofs.Steps.{steps, goes}
-use Rattle.book.specs.SomeStart.{Reached}
-use Rattle.book.specs.Reading.{reading_of, cursor, read_book, ReadingIs}
+use Rattle.records.specs.Step.{start, CountsFit, stepAt}
+use Rattle.book.specs.Reading.{reading_of, after, read_from, read_book}
+use Rattle.records.proofs.Steps.{steps, Goes, goes}
+use Rattle.table.specs.declared.Verdict.TheVariants as verdict
 
-pub reached_counts : {book : List ℕ} {place : ℕ} {sofar : SoFar} → Reached book place sofar → CountsFit sofar
-reached_counts begun = record { tests = empty_formed.tests_fit; faults = empty_formed.faults_fit }
-reached_counts {book} (read {place} {sofar} x o) = (goes (reached_counts x) (steps book place sofar) o).counts
+-- reading on from a place, with steps enough, gives the reading of the book
+pub record Reads (book : List ℕ) (place : ℕ) (sofar : SoFar) : Type 0 where
+  pub fuel : ℕ
+  pub enough : length book ≤ place + fuel
+  pub counts : CountsFit sofar
+  pub same : read_from (suc fuel) book place sofar ≡ read_book book
 
-pub advances : (book : List ℕ) → Advances cursor book
-advances book place sofar x o =
-    let g = goes (reached_counts x) (steps book place sofar) o in
-    (g.further, g.inside)
+pub start_counts : CountsFit start
+start_counts = record { tests = empty_formed.tests_fit; faults = empty_formed.faults_fit }
 
-pub begins : (book : List ℕ) (sofar : SoFar) → sofar ≡ start → Reached book 0 sofar
-begins book sofar e = rw e begun
+pub begins : (book : List ℕ) (sofar : SoFar) → sofar ≡ start → Reads book 0 sofar
+unfolding read_book
+begins book sofar e = rw e (record { fuel = length book; enough = omega arith; counts = start_counts; same = refl })
 
-module _ (book : List ℕ) (place : ℕ) (sofar : SoFar) (s : Stepped) (x : Reached book place sofar) (e : s ≡ stepAt book place sofar) where
-  -- a last step's reading is that of the book
-  last : (n : ℕ) → said_by s.outcome ≡ done n → read_book book ≡ reading_of n s
-  unfolding read_book
-  last n o = rw e (stops cursor book (advances book) x n (rw e at o))
+module _ (book : List ℕ) (place : ℕ) (sofar : SoFar) (s : Stepped) (r : Reads book place sofar) (e : s ≡ stepAt book place sofar) where
+  -- what the step says, and what follows it
+  turn : after s.outcome s (read_from r.fuel book s.place s.sofar) ≡ read_book book
+  turn = rw e r.same
 
-  pub accepts-all : (r : Reading) → s.outcome ≡ Accepted → ReadingIs (reading_of 0 s) r → ReadingIs (read_book book) r
-  accepts-all r o w = rw (last 0 (ap said_by o)) w
+  pub accepts-all : s.outcome ≡ Accepted → reading_of verdict.Accepted s ≡ read_book book
+  accepts-all o = rw o at turn
 
-  pub refuses-all : (r : Reading) (why : Refusal) → s.outcome ≡ Refused why → ReadingIs (reading_of (number_of why) s) r → ReadingIs (read_book book) r
-  refuses-all r why o w = rw (last (number_of why) (ap said_by o)) w
+  pub refuses-all : (why : Refusal) → s.outcome ≡ Refused why → reading_of (verdict.Refused why) s ≡ read_book book
+  refuses-all why o = rw o at turn
 
-  module _ (r : Record) (o : s.outcome ≡ Given r) where
-    pub onwards : Reached book s.place s.sofar
-    onwards = rw e (read x (rw e at (ap said_by o)))
+  module _ (x : Record) (o : s.outcome ≡ Given x) where
+    goes_on : Goes book place s
+    goes_on = rw e (goes r.counts (steps book place sofar) x (rw e at o))
 
     pub less-left : length book - s.place < length book - place
-    less-left =
-        let w = advances book place sofar x (rw e at (ap said_by o)) in
-        rw e (omega (arith, w.0, w.1))
+    less-left = let g = goes_on in omega (arith, g.further, g.inside)
 
-pub ruleset reading = (reached_counts, begins, accepts-all, refuses-all, onwards, less-left)
+    pub onwards : Reads book s.place s.sofar
+    onwards = go r.fuel r.enough (rw o at turn)
+      where
+        g : Goes book place s
+        g = goes_on
+
+        go : (n : ℕ) → length book ≤ place + n → read_from n book s.place s.sofar ≡ read_book book → Reads book s.place s.sofar
+        go zero h q = absurd (omega (arith, g.further, g.inside))
+        go (suc n) h q = record { fuel = n; enough = omega (arith, g.further); counts = g.counts; same = q }
+
+pub ruleset reading = (begins, accepts-all, refuses-all, less-left, onwards)

@@ -6,13 +6,13 @@ use borrow.Author.Tests.{lt-ltb, le-ltb, eq-eqb, ne_eqb, not-false}
 use lib.Dec.{eqb}
 use Rattle.folds.proofs.Bools.{both_left}
 use Rattle.table.specs.declared.Table.{Table}
-use Rattle.table.specs.Table.{output_at, agrees, separates}
-use Rattle.table.specs.WellFormed.{Tested}
+use Rattle.table.specs.Table.{output_at}
+use Rattle.table.specs.Test.{Tested}
 use Rattle.table.proofs.Formed.{formed, accepted, rejected}
 use Rattle.records.specs.declared.SoFar.{SoFar}
 use Rattle.records.specs.declared.Stage.{Stage}
 use Rattle.records.specs.declared.Stage.TheVariants.{Tests, Faults, Responses}
-use Rattle.records.specs.Counts.{CountsFit}
+use Rattle.records.specs.Step.{CountsFit}
 use Rattle.book.specs.Sound.{order_of, correct_from, stage_fits, sound_test}
 
 module _ (stage : Stage) (tb : Table) where
@@ -34,14 +34,12 @@ module _ (stage : Stage) (tb : Table) where
       pub response-fault : tb.faults ≤ f → false ≡ stage_fits stage tb
       response-fault l = rw (h, lt-ltb _ _ k, le-ltb _ _ l)
 
-      module _ (l : f < tb.faults) (same : Bool) (e : same ≡ agrees (output_at tb) 0 (f + 1) t) where
-        pub response-same : same ≡ true → false ≡ stage_fits stage tb
-        unfolding separates
-        response-same q = rw (h, lt-ltb _ _ k, lt-ltb _ _ l, ← e, q)
+      module _ (l : f < tb.faults) (a b : ℕ) (p : a ≡ output_at tb t 0) (q : b ≡ output_at tb t (f + 1)) where
+        pub response-same : a ≡ b → false ≡ stage_fits stage tb
+        response-same e = rw (h, lt-ltb _ _ k, lt-ltb _ _ l, ← p, ← q, eq-eqb _ _ e)
 
-        pub response-rest : same ≡ false → (r : Bool) → r ≡ correct_from tb.cells tb.tests tb.faults (order_of f t + 1) → r ≡ stage_fits stage tb
-        unfolding separates
-        response-rest q r n = rw (h, lt-ltb _ _ k, lt-ltb _ _ l, ← e, q) n
+        pub response-rest : (a ≡ b → ⊥) → (r : Bool) → r ≡ correct_from tb.cells tb.tests tb.faults (order_of f t + 1) → r ≡ stage_fits stage tb
+        response-rest n r e = rw (h, lt-ltb _ _ k, lt-ltb _ _ l, ← p, ← q, ne_eqb _ _ n) e
 
 pub ruleset stages = (tests-only, faults-none, faults-rest, response-test, response-fault, response-same, response-rest)
 

@@ -1,8 +1,8 @@
 -- The one book of a table. The sentences are document 01's.
 -- Assumes nothing.
-use Rattle.std.specs.Prelude.{List, ◌++◌, ℕ, ◌+◌}
+use Rattle.std.specs.Prelude.{Bool, not, List, ◌++◌, ℕ, ◌+◌, eqb}
 use Rattle.folds.specs.Fold.{joined, always}
-use Rattle.table.specs.Table.{output_at, separates, line_of, stuck_of}
+use Rattle.table.specs.Table.{output_at, line_of, stuck_of}
 use Rattle.table.specs.declared.Table.{Table}
 use Rattle.records.specs.declared.Record.TheVariants.{Test, Fault, Response, End}
 use Rattle.records.specs.Step.{record_bytes}
@@ -17,9 +17,13 @@ module _ (tb : Table) where
   unfoldable pub responseBytes : ℕ → ℕ → List ℕ
   responseBytes f t = record_bytes (Response t f (output_at tb t (f + 1)))
 
+  -- fault f's output in test t is not the correct one
+  unfoldable pub answersWrong : ℕ → ℕ → Bool
+  answersWrong f t = not (eqb (output_at tb t 0) (output_at tb t (f + 1)))
+
   -- "A response that is not given equals the correct output."
   unfoldable pub responsesOf : ℕ → List ℕ
-  responsesOf f = joined (separates (output_at tb) 0 (f + 1)) (responseBytes f) tb.tests
+  responsesOf f = joined (answersWrong f) (responseBytes f) tb.tests
 
   -- "All tests come first, then faults, then responses, then one end"
   unfoldable pub bookOf : List ℕ

@@ -1,5 +1,4 @@
 pub mod Reading
 pub mod Sound
-pub mod RecordAt
-pub mod SomeStart
+pub mod Given
 pub mod BookOf

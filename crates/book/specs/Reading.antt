@@ -1,39 +1,33 @@
 -- The reading of a whole book: step after step from its start. The sentences are document 01's.
 -- Assumes nothing.
-use Rattle.std.specs.Prelude.{List, ◌≡◌, ℕ}
-use Rattle.table.specs.Answers.{verdict_number}
+use Rattle.std.specs.Prelude.{List, ℕ, zero, suc, length}
+use Rattle.table.specs.Table.{empty_table}
 use Rattle.table.specs.declared.Reading.{Reading}
-use Rattle.checks.specs.Cursor.{Read, Said, Cursor, read_all}
+use Rattle.table.specs.declared.Refusal.TheVariants.{NoEnd}
+use Rattle.table.specs.declared.Verdict.{Verdict}
+use Rattle.table.specs.declared.Verdict.TheVariants.{Accepted, Refused}
+use Rattle.records.specs.declared.Outcome.{Outcome}
+use Rattle.records.specs.declared.Outcome.TheVariants as outcome
 use Rattle.records.specs.declared.SoFar.{SoFar}
 use Rattle.records.specs.declared.Stepped.{Stepped}
-use Rattle.records.specs.Step.{start, said_by, stepAt}
+use Rattle.records.specs.Step.{start, stepAt}
 
--- a last step's reading
-abbrev pub reading_of : ℕ → Stepped → Read
-reading_of number s = record { number = number; place = s.place; table = s.sofar.table }
+abbrev pub reading_of : Verdict → Stepped → Reading
+reading_of verdict s = record { verdict = verdict; place = s.place; table = s.sofar.table }
 
-abbrev says_of : Stepped → Said
-says_of s = said_by s.outcome
+-- "Reading stops at the first wrong record.": what a step says, where it is the last, else what follows it
+abbrev pub after : Outcome → Stepped → Reading → Reading
+after (outcome.Given r) s rest = rest
+after outcome.Accepted s rest = reading_of Accepted s
+after (outcome.Refused why) s rest = reading_of (Refused why) s
 
-abbrev next_of : Stepped → ℕ
-next_of s = s.place
+-- "Reading is a cursor over the book.": the reading from a place, in at most n steps
+abbrev pub read_from : ℕ → List ℕ → ℕ → SoFar → Reading
+read_from zero book place sofar = record { verdict = Refused NoEnd; place = place; table = empty_table }
+read_from (suc n) book place sofar =
+    let s = stepAt book place sofar in
+    after s.outcome s (read_from n book s.place s.sofar)
 
-abbrev then_of : Stepped → SoFar
-then_of s = s.sofar
-
--- "Reading is a cursor over the book.": by a step at a place
-abbrev pub cursor_by : (List ℕ → ℕ → SoFar → Stepped) → Cursor SoFar Stepped
-cursor_by step =
-    record { start = start; step = step; says = says_of; next = next_of; then = then_of; reading = reading_of }
-
-abbrev pub cursor : Cursor SoFar Stepped
-cursor = cursor_by stepAt
-
-unfoldable pub read_book : List ℕ → Read
-read_book book = read_all cursor book
-
--- the number, then the place and the table
-pub record ReadingIs (s : Read) (r : Reading) : Type 0 where
-  pub number : verdict_number r.verdict ≡ s.number
-  pub place : r.place ≡ s.place
-  pub table : r.table ≡ s.table
+-- a record has a byte at least, so that there are at most as many as bytes, and one step more
+unfoldable pub read_book : List ℕ → Reading
+read_book book = read_from (suc (length book)) book 0 start

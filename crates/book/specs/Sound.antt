@@ -1,13 +1,16 @@
 -- The test of what has been read so far, as the code makes it, and the step that makes it first.
 -- Assumes nothing.
-use Rattle.std.specs.Prelude.{Bool, true, not, List, ℕ, ◌+◌, ◌*◌, ltb, eqb}
+use Rattle.std.specs.Prelude.{Bool, true, not, List, ◌∷◌, ℕ, ◌+◌, ◌*◌, ltb, eqb, length}
 use Rattle.folds.specs.Fold.{both, either, every}
-use Rattle.table.specs.Table.{cell_at, output_at, agrees, separates}
-use Rattle.table.specs.Form.{well_formed}
+use Rattle.table.specs.Table.{cell_at, output_at}
+use Rattle.table.specs.Test.{well_formed}
+use Rattle.table.specs.declared.Refusal.TheVariants.{NotWellFormed}
 use Rattle.table.specs.declared.Table.{Table}
 use Rattle.records.specs.declared.SoFar.{SoFar}
 use Rattle.records.specs.declared.Stage.{Stage}
 use Rattle.records.specs.declared.Stage.TheVariants.{Tests, Faults, Responses, Ended}
+use Rattle.records.specs.declared.Stepped.{Stepped}
+use Rattle.records.specs.Step.{Rule, check, rule, judged, ruleAt}
 
 -- where the response of fault f to test t stands among all
 abbrev pub order_of : ℕ → ℕ → ℕ
@@ -15,7 +18,7 @@ order_of f t = f * 24 + t
 
 -- the response of fault f to test t is before the first one asked for, or the correct output
 unfoldable pub correct_at : List ℕ → ℕ → ℕ → ℕ → Bool
-correct_at cells first f t = either (ltb (order_of f t) first) (agrees (cell_at cells) 0 (f + 1) t)
+correct_at cells first f t = either (ltb (order_of f t) first) (eqb (cell_at cells t 0) (cell_at cells t (f + 1)))
 
 unfoldable pub fault_correct : List ℕ → ℕ → ℕ → ℕ → Bool
 fault_correct cells tests first f = every (correct_at cells first f) tests
@@ -30,8 +33,20 @@ stage_fits Faults tb = both (not (eqb tb.faults 0)) (correct_from tb.cells tb.te
 stage_fits (Responses f t) tb =
     both (ltb t tb.tests)
     (both (ltb f tb.faults)
-    (both (separates (output_at tb) 0 (f + 1) t) (correct_from tb.cells tb.tests tb.faults (order_of f t + 1))))
+    (both (not (eqb (output_at tb t 0) (output_at tb t (f + 1)))) (correct_from tb.cells tb.tests tb.faults (order_of f t + 1))))
 stage_fits Ended tb = true
 
 unfoldable pub sound_test : SoFar → Bool
 sound_test sofar = both (well_formed sofar.table) (stage_fits sofar.stage sofar.table)
+
+-- "A reading so far that no start of any book gives, or a place past the lent book's end, gives 20 with that place and the
+-- empty table, before any other number."
+unfoldable pub call_rule : List ℕ → ℕ → SoFar → Rule
+call_rule book place sofar = rule
+    (check NotWellFormed (not (sound_test sofar))
+    ∷ check NotWellFormed (ltb (length book) place)
+    ∷ (ruleAt book place sofar).checks)
+    (ruleAt book place sofar).gives
+
+unfoldable pub record_at : List ℕ → ℕ → SoFar → Stepped
+record_at book place sofar = judged (call_rule book place sofar) place

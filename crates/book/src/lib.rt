@@ -1,14 +1,12 @@
 // The reader of a fault book: a cursor over its records, with what has been read so far by value.
 ghost use Rattle.std.specs.Prelude.{◌≡◌};
-ghost use Rattle.records.specs.StepIs.{StepIs};
 ghost use Rattle.records.specs.Step.{start};
-ghost use Rattle.book.specs.Reading.{read_book, ReadingIs};
-ghost use Rattle.book.specs.RecordAt.{record_at};
+ghost use Rattle.book.specs.Reading.{read_book};
+ghost use Rattle.book.specs.Sound.{record_at};
 
 use records::{Outcome, SoFar, Stepped};
 use table::{Reading, Refusal, Verdict};
 
-pub mod inner;
 mod sound;
 
 // What has been read at a book's start.
@@ -20,7 +18,7 @@ pub fn begin() -> SoFar
 
 // The record at a place of the book, after what has been read so far.
 pub fn read_record(book: &[u8], place: usize, sofar: SoFar) -> Stepped
-    ensures { StepIs (record_at book.now place sofar) result }
+    ensures { result ≡ record_at book.now place sofar }
 {
     if !sound::is_sound(sofar) {
         return records::inner::refuse(Refusal::NotWellFormed, place);
@@ -33,7 +31,7 @@ pub fn read_record(book: &[u8], place: usize, sofar: SoFar) -> Stepped
 
 // The reading of a whole book.
 pub fn read_book(book: &[u8]) -> Reading
-    ensures { ReadingIs (read_book book.now) result }
+    ensures { result ≡ read_book book.now }
 {
     let mut place = 0;
     let mut sofar = begin();
@@ -46,8 +44,22 @@ pub fn read_book(book: &[u8]) -> Reading
                 place = got.place;
                 sofar = after;
             }
-            Outcome::Accepted => return inner::stopped(Verdict::Accepted, got),
-            Outcome::Refused(why) => return inner::stopped(Verdict::Refused(why), got),
+            Outcome::Accepted => {
+                let table = after.table;
+                return Reading {
+                    verdict: Verdict::Accepted,
+                    place: got.place,
+                    table,
+                };
+            }
+            Outcome::Refused(why) => {
+                let table = after.table;
+                return Reading {
+                    verdict: Verdict::Refused(why),
+                    place: got.place,
+                    table,
+                };
+            }
         }
     }
 }

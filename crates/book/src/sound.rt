@@ -13,7 +13,7 @@ fn correct_at(cells: &[u8; 1464], first: usize, f: usize, t: usize) -> bool
     if f * 24 + t < first {
         return true;
     }
-    table::inner::agrees(cells, 0, f + 1, t)
+    table::inner::cell(cells, t, 0) == table::inner::cell(cells, t, f + 1)
 }
 
 fn fault_correct(cells: &[u8; 1464], tests: usize, first: usize, f: usize) -> bool
@@ -65,7 +65,9 @@ fn stage_fits(stage: Stage, table: Table) -> bool
             if faults <= f {
                 return false;
             }
-            if table::inner::agrees(&table.cells, 0, f + 1, t) {
+            if table::inner::cell(&table.cells, t, 0)
+                == table::inner::cell(&table.cells, t, f + 1)
+            {
                 return false;
             }
             correct_from(&table.cells, tests, faults, f * 24 + t + 1)

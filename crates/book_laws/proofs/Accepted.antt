@@ -1,28 +1,26 @@
 -- The reader accepts the books of well-formed tables, and no others. Assumes nothing.
-use mathlib.Core.List.{List, [], ◌++◌, append-nil, append_assoc}
+use mathlib.Core.List.{List, [], ◌++◌}
 use mathlib.Core.Path.{◌≡◌, refl, sym, ap, ◌∙◌}
 use Prim.Native.Nat.{ℕ, ◌≤◌}
 use native.Mathlib.Omega.{arith}
 use borrow.Author.Tests.{le-leb, le-ltb}
 use lib.ListN.{length, length-drop}
 use lib.Seq.{take_all}
-use Rattle.table.specs.WellFormed.{WellFormed}
-use Rattle.table.specs.OfType.{Long, OfType}
+use Rattle.table.specs.WellFormed.{WellFormed, OfType}
+use Rattle.table.specs.declared.Reading.{Reading}
 use Rattle.table.specs.declared.Table.{Table}
-use Rattle.table.proofs.Answers.{number_bounds}
-use Rattle.checks.specs.Check.{first_of}
-use Rattle.checks.specs.Cursor.{Read}
+use Rattle.table.specs.declared.Verdict.TheVariants.{Accepted}
 use Rattle.book.specs.BookOf.{bookOf}
-use Rattle.book.specs.SomeStart.{Bytes, Reached}
+use Rattle.book.specs.Given.{Bytes, Reached}
 use Rattle.book.specs.Reading.{read_book}
-use Rattle.records.specs.Step.{record_bytes, rank_of, accepted_at, edgeRule, ruleAt, stepAt}
+use Rattle.records.specs.Step.{record_bytes, rank_of, accepted_at, first_of, edgeRule, ruleAt, stepAt}
 use Rattle.records.specs.declared.Record.TheVariants.{End}
 use Rattle.records.specs.declared.Stage.{Stage}
 use Rattle.records.specs.declared.Stage.TheVariants.{Ended}
 use Rattle.book_laws.specs.Accepts.{Accepts}
 use Rattle.book_laws.proofs.Along.{so, Along, go_on, end_step}
-use Rattle.book_laws.proofs.Body.{body_of, book-body}
 use Rattle.book_laws.proofs.Good.{ended, reached_good}
+use Rattle.book_laws.proofs.Grown.{Long}
 use Rattle.book_laws.proofs.Readings.{Ends, refused, accepted, ends, accepted-reading}
 use Rattle.book_laws.proofs.Round.{run}
 
@@ -36,23 +34,26 @@ pub record Gave (book : List ℕ) (tb : Table) : Type 0 where
 pub accepted_gave : (book : List ℕ) (tb : Table) → Accepts book tb → Gave book tb
 accepted_gave book tb h = go (ends book) h
   where
-    go : {r : Read} → Ends book r → r ≡ record { number = 0; place = length book; table = tb } → Gave book tb
-    go (refused x why e) q = absurd (omega (arith, (number_bounds why).0, ap (λ (r : Read). r.number) q))
+    go : {r : Reading} → Ends book r → r ≡ record { verdict = Accepted; place = length book; table = tb } → Gave book tb
+    go (refused x why e) q =
+        let v = ap (λ (r : Reading). r.verdict) q in
+        let z : ◌≡◌ {A = ℕ} 0 1 = cc in
+        absurd (omega arith)
     go (accepted {place} {sofar} x l u e) q =
         let g = reached_good x in
-        let same : sofar.table ≡ tb = ap (λ (r : Read). r.table) q in
+        let same : sofar.table ≡ tb = ap (λ (r : Reading). r.table) q in
         record {
           formed = rw same at g.formed;
           typed = λ b. rw same at (g.typed b);
           is_book = rw same at (sym (take_all place book l) ∙ g.taken ∙ ended sofar.stage sofar.table u);
         }
 
--- number 0 comes with the book's length
-pub accepts_whole : (book : List ℕ) → (read_book book).number ≡ 0 → Accepts book (read_book book).table
+-- an accepted verdict comes with the book's length
+pub accepts_whole : (book : List ℕ) → (read_book book).verdict ≡ Accepted → Accepts book (read_book book).table
 accepts_whole book h = go (ends book) h
   where
-    go : {r : Read} → Ends book r → r.number ≡ 0 → r ≡ record { number = 0; place = length book; table = r.table }
-    go (refused x why e) q = absurd (omega (arith, (number_bounds why).0))
+    go : {r : Reading} → Ends book r → r.verdict ≡ Accepted → r ≡ record { verdict = Accepted; place = length book; table = r.table }
+    go (refused x why e) q = let z : ◌≡◌ {A = ℕ} 0 1 = cc in absurd (omega arith)
     go (accepted {place} {sofar} x l u e) q =
         let p : place ≡ length book = omega (arith, (reached_good x).inside) in
         rw p refl
@@ -64,31 +65,21 @@ unfolding stepAt ruleAt edgeRule first_of
 accepts_edge book place tb e = rw (le-leb (length book) place (omega arith), le-ltb place (length book) (omega arith))
 
 module _ (tb : Table) (w : WellFormed tb) (o : Long tb) where
-  abbrev pub Whole : Stage → Table → Type 0
+  abbrev Whole : Stage → Table → Type 0
   Whole s u = (u ≡ tb) × (s ≡ Ended)
 
-  abbrev end : List ℕ
-  end = record_bytes (End tb.tests tb.faults)
-
-  -- past the end record, whatever follows it
-  pub past_end : (more : List ℕ) → Along (bookOf tb ++ more) more Whole
-  past_end more = rw same (over (run tb w o (end ++ more)))
+  -- past the end record
+  pub past_end : Along (bookOf tb) [] Whole
+  past_end = over (run tb w o)
     where
-      same : bookOf tb ++ more ≡ body_of tb ++ (end ++ more)
-      same = rw (book-body tb) (append_assoc (body_of tb) end more)
-
-      over : {book : List ℕ} → Along book (end ++ more) (λ s u. (u ≡ tb) × (rank_of s ≤ 2)) → Along book more Whole
-      over {book} a =
+      over : Along (bookOf tb) (record_bytes (End tb.tests tb.faults) ++ []) (λ s u. (u ≡ tb) × (rank_of s ≤ 2)) → Along (bookOf tb) [] Whole
+      over a =
           go_on Whole (End tb.tests tb.faults) a tb Ended
-          (let e = a.holds.0 in rw e (end_step book a.place tb a.stage more a.left a.holds.1))
+          (let e = a.holds.0 in rw e (end_step (bookOf tb) a.place tb a.stage [] a.left a.holds.1))
           (refl, refl)
 
-  -- the whole book
-  pub book-ended : Along (bookOf tb) [] Whole
-  book-ended = rw (append-nil (bookOf tb)) at (past_end [])
-
   pub book-accepted : Accepts (bookOf tb) tb
-  book-accepted = over book-ended
+  book-accepted = over past_end
     where
       over : Along (bookOf tb) [] Whole → Accepts (bookOf tb) tb
       over a =

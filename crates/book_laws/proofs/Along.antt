@@ -9,14 +9,12 @@ use native.Mathlib.Omega.{arith}
 use borrow.Author.Tests.{le-ltb, lt-leb, eq-eqb, ne_eqb}
 use lib.ListN.{length, get_or, drop, length-drop}
 use lib.Seq.{get_or-drop, drop-drop, drop-append_seam}
+use Rattle.folds.specs.Fold.{every}
 use Rattle.table.specs.Table.{output_at}
-use Rattle.table.specs.Form.{new_label}
 use Rattle.table.specs.declared.Table.{Table}
-use Rattle.checks.specs.Check.{first_of}
-use Rattle.checks.specs.Reached.{read}
-use Rattle.book.specs.SomeStart.{Reached}
-use Rattle.grow.specs.Grow.{with_test, with_fault, with_response}
-use Rattle.records.specs.Step.{record_bytes, given_at, rank_of, not_after, testRule, faultRule, responseRule, endRule, kindRule, ruleAt, stepAt}
+use Rattle.book.specs.Given.{Reached, read}
+use Rattle.grow.specs.Grow.{with_test, with_fault, with_response, differs}
+use Rattle.records.specs.Step.{record_bytes, given_at, rank_of, not_after, first_of, testRule, faultRule, responseRule, endRule, kindRule, ruleAt, stepAt}
 use Rattle.records.specs.declared.Record.{Record}
 use Rattle.records.specs.declared.Record.TheVariants.{Test, Fault, Response, End}
 use Rattle.records.specs.declared.SoFar.{SoFar}
@@ -56,7 +54,7 @@ go_on {book} {rest} Q r a tb stage e q = record {
   place = a.place + length (record_bytes r);
   table = tb;
   stage = stage;
-  reached = rw e at (read a.reached (rw e refl));
+  reached = rw e at (read a.reached r (rw e refl));
   left = sym (drop-drop (length (record_bytes r)) a.place book) ∙ ap (drop (length (record_bytes r))) a.left ∙ drop-append_seam (record_bytes r) rest;
   holds = q;
 }
@@ -70,7 +68,7 @@ module _ (book : List ℕ) (place : ℕ) (tb : Table) (s : Stage) (rest : List �
       let never : rank_of s ≡ 3 → ⊥ = λ z. omega arith in
       rw (lt-leb (length book) place (omega arith), ne_eqb (rank_of s) 3 never, left-kind book place _ e, le-ltb (length book) (place + 2) (omega arith), le-ltb 0 (rank_of s) hs, lt-leb 24 tb.tests ht, left-byte book place _ e 1)
 
-  pub fault-step : (l v : ℕ) → drop place book ≡ record_bytes (Fault l v) ++ rest → rank_of s ≤ 1 → tb.faults < 60 → v ≤ 1 → new_label tb.lines tb.stuck tb.faults l v ≡ true
+  pub fault-step : (l v : ℕ) → drop place book ≡ record_bytes (Fault l v) ++ rest → rank_of s ≤ 1 → tb.faults < 60 → v ≤ 1 → every (differs tb.lines tb.stuck l v) tb.faults ≡ true
       → stepAt book place (so tb s) ≡ given_at (Fault l v) (place + 3) (with_fault tb l v) Faults
   unfolding stepAt ruleAt kindRule faultRule first_of
   fault-step l v e hs ht hv hl =

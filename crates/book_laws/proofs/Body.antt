@@ -5,23 +5,23 @@ use mathlib.Core.Logic.{inr}
 use mathlib.Core.Path.{◌≡◌, refl, sym, ap, ap₂, ◌∙◌}
 use Prim.Native.Nat.{ℕ, ◌+◌, ◌≤◌, ◌<◌}
 use native.Mathlib.Omega.{arith}
+use borrow.Author.Tests.{eq-eqb, ne_eqb}
 use lib.ListN.{length, length-append}
 use lib.Seq.{get_or-set_same, get_or-set_other}
 use Rattle.folds.specs.Fold.{joined, always}
 use Rattle.folds.proofs.Joined.{joined-none, joined-yes, joined_same, joined_alike, joined-stop, joined-most}
 use Rattle.folds.proofs.Gather.{always_true}
-use Rattle.table.specs.Table.{output_at, agrees, separates}
+use Rattle.table.specs.Table.{output_at}
 use Rattle.table.specs.WellFormed.{WellFormed}
-use Rattle.table.specs.OfType.{Long}
 use Rattle.table.specs.declared.Table.{Table}
 use Rattle.table.proofs.Stored.{cell_here, cell_there}
-use Rattle.book.specs.BookOf.{testBytes, faultBytes, responseBytes, responsesOf, bookOf}
+use Rattle.book.specs.BookOf.{testBytes, faultBytes, responseBytes, answersWrong, responsesOf, bookOf}
 use Rattle.grow.specs.Grow.{with_test, with_fault, with_response}
 use Rattle.book.specs.Sound.{order_of}
 use Rattle.records.specs.Step.{record_bytes}
 use Rattle.records.specs.declared.Record.TheVariants.{Test, Fault, Response, End}
-use Rattle.book_laws.proofs.Grown.{filled_there}
-use Rattle.book_laws.proofs.Stages.{wrong, differs-wrong, same-right, Correct}
+use Rattle.book_laws.proofs.Grown.{Long, filled_there}
+use Rattle.book_laws.proofs.Stages.{Correct}
 
 module _ (tb : Table) where
   unfoldable pub testsOf : List ℕ
@@ -44,32 +44,33 @@ module _ (tb : Table) where
 
   row-most : tb.tests ≤ 24 → (f : ℕ) → length (responsesOf tb f) ≤ 96
   unfolding responsesOf responseBytes
-  row-most h f = omega (arith, joined-most (wrong tb f) (responseBytes tb f) 4 tb.tests (λ t l. omega arith))
+  row-most h f = omega (arith, joined-most (answersWrong tb f) (responseBytes tb f) 4 tb.tests (λ t. omega arith))
 
   pub body-most : tb.tests ≤ 24 → tb.faults ≤ 60 → length body_of ≤ 5988
   unfolding body_of testsOf faultsOf wrongOf testBytes faultBytes
   body-most h k =
-      let t = joined-most always (testBytes tb) 2 tb.tests (λ i l. omega arith) in
-      let f = joined-most always (faultBytes tb) 3 tb.faults (λ i l. omega arith) in
-      let r = joined-most always (responsesOf tb) 96 tb.faults (λ f l. row-most h f) in
+      let t = joined-most always (testBytes tb) 2 tb.tests (λ i. omega arith) in
+      let f = joined-most always (faultBytes tb) 3 tb.faults (λ i. omega arith) in
+      let r = joined-most always (responsesOf tb) 96 tb.faults (row-most h) in
       simp length-append (omega arith)
 
   -- ---- no response where every output is correct
 
   module _ (first : ℕ) (c : Correct tb first) where
-    right-not-wrong : (t f : ℕ) → t < tb.tests → f < tb.faults → first ≤ order_of f t → wrong tb f t ≡ false
-    right-not-wrong t f h k l = same-right tb f t (c t f h k l)
+    right-not-wrong : (t f : ℕ) → t < tb.tests → f < tb.faults → first ≤ order_of f t → answersWrong tb f t ≡ false
+    unfolding answersWrong
+    right-not-wrong t f h k l = rw (eq-eqb _ _ (c t f h k l))
 
-    row-stops : (t f : ℕ) → t ≤ tb.tests → f < tb.faults → first ≤ order_of f t → responsesOf tb f ≡ joined (wrong tb f) (responseBytes tb f) t
+    row-stops : (t f : ℕ) → t ≤ tb.tests → f < tb.faults → first ≤ order_of f t → responsesOf tb f ≡ joined (answersWrong tb f) (responseBytes tb f) t
     unfolding responsesOf
     row-stops t f h k l =
-        joined-stop (wrong tb f) (responseBytes tb f) t tb.tests h (λ i m n. rw (right-not-wrong i f n k (omega arith)))
+        joined-stop (answersWrong tb f) (responseBytes tb f) t tb.tests h (λ i m n. rw (right-not-wrong i f n k (omega arith)))
 
     rows-stop : (f : ℕ) → f ≤ tb.faults → first ≤ order_of f 0 → wrongOf ≡ joined always (responsesOf tb) f
     unfolding wrongOf
     rows-stop f h l =
         joined-stop always (responsesOf tb) f tb.faults h
-        (λ i m n. rw (always_true i) (row-stops 0 i (omega arith) n (omega arith) ∙ joined-none (wrong tb i) (responseBytes tb i)))
+        (λ i m n. rw (always_true i) (row-stops 0 i (omega arith) n (omega arith) ∙ joined-none (answersWrong tb i) (responseBytes tb i)))
 
   pub none-wrong : Correct tb 0 → wrongOf ≡ []
   none-wrong c = rows-stop 0 c 0 (omega arith) (omega arith) ∙ joined-none always (responsesOf tb)
@@ -140,15 +141,16 @@ module _ (tb : Table) (long : Long tb) (w : WellFormed tb) (t f x : ℕ) (h : t 
   kept g n u m l ne v = response-there u (g + 1) (omega arith) (omega arith) (λ e q. ne u v e (omega arith))
 
   -- the rows below a test of a fault, where they are not the one stored to
-  row_kept : (g n : ℕ) → g < tb.faults → n ≤ tb.tests → ((u : ℕ) → u < n → u ≡ t → g ≡ f → ⊥) → joined (wrong new g) (responseBytes new g) n ≡ joined (wrong tb g) (responseBytes tb g) n
-  unfolding separates agrees responseBytes
+  row_kept : (g n : ℕ) → g < tb.faults → n ≤ tb.tests → ((u : ℕ) → u < n → u ≡ t → g ≡ f → ⊥) → joined (answersWrong new g) (responseBytes new g) n ≡ joined (answersWrong tb g) (responseBytes tb g) n
+  unfolding answersWrong responseBytes
   row_kept g n m l ne =
-      joined_alike (wrong new g) (wrong tb g) (responseBytes new g) (responseBytes tb g) n
+      joined_alike (answersWrong new g) (answersWrong tb g) (responseBytes new g) (responseBytes tb g) n
       (λ u v. rw (response-there u 0 (omega arith) (omega arith) (λ e q. omega arith), kept g n u m l ne v))
       (λ u v w. rw (kept g n u m l ne v))
 
-  here-wrong : (output_at tb t 0 ≡ x → ⊥) → wrong new f t ≡ true
-  here-wrong ne = differs-wrong new f t (λ e. ne (sym (response-there t 0 h (omega arith) (λ e g. omega arith)) ∙ e ∙ response-here))
+  here-wrong : (output_at tb t 0 ≡ x → ⊥) → answersWrong new f t ≡ true
+  unfolding answersWrong
+  here-wrong ne = rw (response-there t 0 h (omega arith) (λ e g. omega arith), response-here, ne_eqb (output_at tb t 0) x ne)
 
   here-bytes : responseBytes new f t ≡ record_bytes (Response t f x)
   unfolding responseBytes
@@ -157,7 +159,7 @@ module _ (tb : Table) (long : Long tb) (w : WellFormed tb) (t f x : ℕ) (h : t 
   row_more : Correct tb (order_of f t) → Correct new (order_of f t + 1) → (output_at tb t 0 ≡ x → ⊥) → responsesOf new f ≡ responsesOf tb f ++ record_bytes (Response t f x)
   row_more c d ne =
       row-stops new (order_of f t + 1) d (t + 1) f (omega arith) k (omega arith)
-      ∙ joined-yes (wrong new f) (responseBytes new f) t (here-wrong ne)
+      ∙ joined-yes (answersWrong new f) (responseBytes new f) t (here-wrong ne)
       ∙ ap₂ (λ (a b : List ℕ). a ++ b) (row_kept f t k (omega arith) (λ u v e g. omega arith) ∙ sym (row-stops tb (order_of f t) c t f (omega arith) k (omega arith))) here-bytes
 
   lower-rows : (g : ℕ) → g < f → responsesOf new g ≡ responsesOf tb g

@@ -3,17 +3,18 @@ use mathlib.Core.List.{List}
 use mathlib.Core.Path.{◌≡◌, sym, ap, ◌∙◌}
 use Prim.Native.Nat.{ℕ, ◌≤◌}
 use lib.ListN.{length}
-use Rattle.table.specs.WellFormed.{WellFormed}
-use Rattle.table.specs.OfType.{OfType}
+use Rattle.table.specs.WellFormed.{WellFormed, OfType}
+use Rattle.table.specs.declared.Reading.{Reading}
 use Rattle.table.specs.declared.Table.{Table}
-use Rattle.checks.specs.Cursor.{Read}
+use Rattle.table.specs.declared.Verdict.TheVariants.{Accepted}
 use Rattle.book.specs.BookOf.{bookOf}
-use Rattle.book.specs.SomeStart.{Bytes}
+use Rattle.book.specs.Given.{Bytes}
 use Rattle.book.specs.Reading.{read_book}
 use Rattle.book_laws.specs.Accepts.{Accepts, BookOfTable}
 use Rattle.book_laws.proofs.Accepted.{accepted_gave, accepts_whole, book-accepted}
 use Rattle.book_laws.proofs.Bytes.{book-bytes}
 use Rattle.book_laws.proofs.Good.{book_most}
+use Rattle.book_laws.proofs.Grown.{long_of}
 
 -- "Those are the tables that some book gives, and no others.": an accepted book is that of a well-formed table
 pub accepts_book : (book : List ℕ) (tb : Table) → Bytes book → Accepts book tb → BookOfTable book tb
@@ -23,19 +24,23 @@ accepts_book book tb b h =
 
 -- and such a book is accepted, with that table
 pub book_accepts : (book : List ℕ) (tb : Table) → BookOfTable book tb → Accepts book tb
-book_accepts book tb h = rw h.is (book-accepted tb h.formed h.typed.long)
+book_accepts book tb h = rw h.is (book-accepted tb h.formed (long_of h.typed))
+
+-- a verdict of acceptance comes with the book's own table and length
+pub accepted_book : (book : List ℕ) → Bytes book → (read_book book).verdict ≡ Accepted → BookOfTable book (read_book book).table
+accepted_book book b h = accepts_book book _ b (accepts_whole book h)
 
 -- every well-formed table has one, and it is made of bytes
 pub some_book : (tb : Table) → OfType tb → WellFormed tb → Bytes (bookOf tb) × Accepts (bookOf tb) tb
-some_book tb o w = (book-bytes tb w o, book-accepted tb w o.long)
+some_book tb o w = (book-bytes tb w o, book-accepted tb w (long_of o))
 
 -- two tables with the same book are equal
 pub one_table : (a b : Table) → OfType a → WellFormed a → OfType b → WellFormed b → bookOf a ≡ bookOf b → a ≡ b
 one_table a b oa wa ob wb e =
-    ap (λ (r : Read). r.table) (sym (book-accepted a wa oa.long) ∙ ap read_book e ∙ book-accepted b wb ob.long)
+    ap (λ (r : Reading). r.table) (sym (book-accepted a wa (long_of oa)) ∙ ap read_book e ∙ book-accepted b wb (long_of ob))
 
 -- "The longest book has 5,991 bytes": no accepted book is longer
-pub accepted_most : (book : List ℕ) → (read_book book).number ≡ 0 → length book ≤ 5991
+pub accepted_most : (book : List ℕ) → (read_book book).verdict ≡ Accepted → length book ≤ 5991
 accepted_most book h =
     let g = accepted_gave book _ (accepts_whole book h) in
     rw g.is_book (book_most _ g.formed)

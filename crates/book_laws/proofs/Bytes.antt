@@ -4,15 +4,13 @@ use native.Mathlib.Omega.{arith}
 use Rattle.folds.specs.Fold.{joined, always}
 use Rattle.folds.proofs.All.{AllOf, all_of, all_read, all_append, joined-all}
 use Rattle.table.specs.Table.{output_at}
-use Rattle.table.specs.WellFormed.{WellFormed}
-use Rattle.table.specs.OfType.{OfType}
+use Rattle.table.specs.WellFormed.{WellFormed, OfType}
 use Rattle.table.specs.declared.Table.{Table}
 use Rattle.table.proofs.Stored.{cell_byte}
-use Rattle.book.specs.BookOf.{testBytes, faultBytes, responseBytes, responsesOf, bookOf}
+use Rattle.book.specs.BookOf.{testBytes, faultBytes, responseBytes, answersWrong, responsesOf, bookOf}
 use Rattle.records.specs.Step.{record_bytes}
 use Rattle.records.specs.declared.Record.TheVariants.{End}
-use Rattle.book.specs.SomeStart.{Bytes}
-use Rattle.book_laws.proofs.Stages.{wrong}
+use Rattle.book.specs.Given.{Bytes}
 
 abbrev pub byte : ℕ → Type 0
 byte x = x < 256
@@ -31,7 +29,7 @@ module _ (tb : Table) (w : WellFormed tb) (o : OfType tb) where
 
   responses-bytes : (f : ℕ) → f < tb.faults → AllOf byte (responsesOf tb f)
   unfolding responsesOf responseBytes
-  responses-bytes f k = joined-all byte (wrong tb f) (responseBytes tb f) tb.tests (λ t h e.
+  responses-bytes f k = joined-all byte (answersWrong tb f) (responseBytes tb f) tb.tests (λ t h e.
       all_of byte (responseBytes tb f t) (omega arith, (omega (arith, w.tests_fit), (omega (arith, w.faults_fit), (output t (f + 1), tt)))))
 
   end-bytes : AllOf byte (record_bytes (End tb.tests tb.faults))

@@ -2,37 +2,32 @@
 use mathlib.Core.Bool.{Bool, true, false, not}
 use mathlib.Core.List.{List}
 use mathlib.Core.Logic.{◌⊎◌, inl, inr}
-use mathlib.Core.Path.{◌≡◌, refl, sym}
-use Prim.Native.Nat.{ℕ, suc, ◌≤◌, ◌<◌}
+use mathlib.Core.Path.{◌≡◌, refl}
+use Prim.Native.Nat.{ℕ, zero, suc, ◌≤◌, ◌<◌}
 use native.Mathlib.Omega.{arith}
 use borrow.Author.Tests.{lt-ltb, le-ltb, ltb-true, not-true}
 use lib.Dec.{ltb}
 use lib.ListN.{length}
+use Rattle.folds.specs.Fold.{pick}
 use Rattle.folds.proofs.Bools.{clash}
-use Rattle.table.specs.OfType.{OfType}
+use Rattle.table.specs.WellFormed.{OfType}
 use Rattle.table.specs.declared.Refusal.TheVariants.{NotWellFormed}
-use Rattle.checks.specs.Check.{first_of}
-use Rattle.checks.specs.Refuses.{Refuses}
-use Rattle.checks.proofs.Passed.{way}
-use Rattle.checks.proofs.Twins.{twins, twin-advances}
-use Rattle.book.specs.SomeStart.{Reached, SomeStart}
-use Rattle.book.specs.Reading.{cursor, read_book}
-use Rattle.book.specs.Sound.{sound_test}
-use Rattle.book.specs.RecordAt.{call_rule, record_at}
-use Rattle.book.proofs.Loop.{advances}
-use Rattle.records.specs.StepIs.{outcome_number, outcome_bytes}
-use Rattle.records.specs.Step.{record_bytes, start, refused_at, stepAt}
+use Rattle.book.specs.Given.{Reached, begun, read, SomeStart}
+use Rattle.book.specs.Reading.{after, read_from, read_book}
+use Rattle.book.specs.Sound.{sound_test, call_rule, record_at}
+use Rattle.records.specs.Step.{start, refused_at, first_of, stepAt}
+use Rattle.records.specs.declared.Outcome.TheVariants.{Given, Refused}
 use Rattle.records.specs.declared.Record.{Record}
 use Rattle.records.specs.declared.SoFar.{SoFar}
 use Rattle.records.specs.declared.Stepped.{Stepped}
+use Rattle.records.proofs.Steps.{Steps, refuses, accepts, gives, steps}
 use Rattle.book_laws.specs.Calls.{calls_from}
-use Rattle.records.proofs.Answers.{some_byte}
 use Rattle.book_laws.specs.Records.{BytesAt}
-use Rattle.book_laws.specs.Refuses.{RefusedWith}
+use Rattle.book_laws.specs.Refuses.{Refuses}
 use Rattle.book_laws.proofs.Good.{reached_good}
 use Rattle.book_laws.proofs.Numbers.{call-refuses, refuses-call, step-number}
 use Rattle.book_laws.proofs.Starts.{reached_sound, start_sound, sound_start}
-use Rattle.book_laws.proofs.Records.{record_there}
+use Rattle.book_laws.proofs.Records.{record_of, given_record, record_there}
 
 module _ (book : List ℕ) (place : ℕ) (sofar : SoFar) where
   -- where the test holds and the place is in the book, the call is the step
@@ -42,7 +37,7 @@ module _ (book : List ℕ) (place : ℕ) (sofar : SoFar) where
 
   -- ---- "A reading so far that no start of any book gives, or a place past the lent book's end, gives 20", and only those
 
-  pub twenty-given : OfType sofar.table → (SomeStart sofar → ⊥) ⊎ (length book < place) → RefusedWith 20 place (record_at book place sofar)
+  pub twenty-given : OfType sofar.table → (SomeStart sofar → ⊥) ⊎ (length book < place) → record_at book place sofar ≡ refused_at NotWellFormed place
   unfolding call_rule
   twenty-given o u = call-refuses book place sofar NotWellFormed (go (sound_test sofar) refl u)
     where
@@ -51,7 +46,7 @@ module _ (book : List ℕ) (place : ℕ) (sofar : SoFar) where
       go true h (inl none) = absurd (none (sound_start sofar o h))
       go true h (inr l) = inr (rw h, inl (lt-ltb (length book) place l, refl))
 
-  pub given-twenty : outcome_number (record_at book place sofar).outcome ≡ 20 → (SomeStart sofar → ⊥) ⊎ (length book < place)
+  pub given-twenty : (record_at book place sofar).outcome ≡ Refused NotWellFormed → (SomeStart sofar → ⊥) ⊎ (length book < place)
   unfolding call_rule
   given-twenty e = go (refuses-call book place sofar NotWellFormed e)
     where
@@ -62,18 +57,16 @@ module _ (book : List ℕ) (place : ℕ) (sofar : SoFar) where
 
   -- ---- the records that it gives are the book's
 
-  pub call-record : (r : Record) → outcome_bytes (record_at book place sofar).outcome ≡ record_bytes r → BytesAt book place r (record_at book place sofar).place
+  pub call-record : (r : Record) → (record_at book place sofar).outcome ≡ Given r → BytesAt book place r (record_at book place sofar).place
   unfolding record_at call_rule stepAt first_of
-  call-record r =
-      way There (not (sound_test sofar)) _ _ (λ _. none) λ _.
-      way There (ltb (length book) place) _ _ (λ _. none) λ _.
-      record_there book place sofar r
+  call-record r e = go (sound_test sofar) (ltb (length book) place) e (record_there book place sofar r)
     where
-      There : Stepped → Type 0
-      There s = outcome_bytes s.outcome ≡ record_bytes r → BytesAt book place r s.place
-
-      none : There (refused_at place NotWellFormed)
-      none = λ e. absurd (some_byte r e)
+      go : (a b : Bool) → (pick (not a) (refused_at NotWellFormed place) (pick b (refused_at NotWellFormed place) (stepAt book place sofar))).outcome ≡ Given r
+          → ((stepAt book place sofar).outcome ≡ Given r → BytesAt book place r (stepAt book place sofar).place)
+          → BytesAt book place r (pick (not a) (refused_at NotWellFormed place) (pick b (refused_at NotWellFormed place) (stepAt book place sofar))).place
+      go false b e k = let z : ◌≡◌ {A = ℕ} 0 1 = cc in absurd (omega arith)
+      go true true e k = let z : ◌≡◌ {A = ℕ} 0 1 = cc in absurd (omega arith)
+      go true false e k = k e
 
 -- ---- "from the book's start the answers are the same"
 
@@ -81,12 +74,19 @@ module _ (book : List ℕ) (place : ℕ) (sofar : SoFar) where
 pub reached_call : {book : List ℕ} {place : ℕ} {sofar : SoFar} → Reached book place sofar → record_at book place sofar ≡ stepAt book place sofar
 reached_call {book} {place} {sofar} x = call_step book place sofar (reached_sound x) (reached_good x).inside
 
--- so the calls give what the reading gives
+-- and the calls go on as the reading does
+calls_same : (n : ℕ) (book : List ℕ) (place : ℕ) (sofar : SoFar) → Reached book place sofar → calls_from n book place sofar ≡ read_from n book place sofar
+calls_same zero book place sofar x = refl
+calls_same (suc n) book place sofar x =
+    rw (reached_call x)
+    (go (steps book place sofar) refl (calls_same n book))
+  where
+    go : {s : Stepped} → Steps book place sofar s → stepAt book place sofar ≡ s → ((p : ℕ) (q : SoFar) → Reached book p q → calls_from n book p q ≡ read_from n book p q)
+        → after s.outcome s (calls_from n book s.place s.sofar) ≡ after s.outcome s (read_from n book s.place s.sofar)
+    go (refuses why) e ih = refl
+    go (accepts l u) e ih = refl
+    go {s} (gives l u g) e ih = rw (given_record g) (ih s.place s.sofar (rw e at (read x (record_of g) (rw e (given_record g)))))
+
 pub calls_read : (book : List ℕ) → calls_from (suc (length book)) book 0 start ≡ read_book book
 unfolding read_book
-calls_read book =
-    let d = advances book in
-    sym (twins cursor book record_at book same d (twin-advances cursor book record_at book same (omega arith) d))
-  where
-    same : (place : ℕ) (sofar : SoFar) → Reached book place sofar → stepAt book place sofar ≡ record_at book place sofar
-    same place sofar x = sym (reached_call x)
+calls_read book = calls_same (suc (length book)) book 0 start begun

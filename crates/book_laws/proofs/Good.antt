@@ -13,25 +13,24 @@ use Rattle.folds.specs.Fold.{always}
 use Rattle.folds.proofs.Below.{below_cases}
 use Rattle.folds.proofs.Joined.{joined-none}
 use Rattle.table.specs.Table.{empty_table, output_at}
-use Rattle.table.specs.WellFormed.{WellFormed}
-use Rattle.table.specs.OfType.{Long, OfType}
+use Rattle.table.specs.WellFormed.{WellFormed, OfType}
 use Rattle.table.specs.declared.Table.{Table}
 use Rattle.table.proofs.Stored.{cell_here, cell_there}
 use Rattle.table.proofs.Empty.{empty_formed, empty_typed}
 use Rattle.book.specs.BookOf.{testBytes, faultBytes, responsesOf, bookOf}
-use Rattle.checks.specs.Cursor.{on}
-use Rattle.checks.specs.Reached.{begun, read}
-use Rattle.book.specs.SomeStart.{Bytes, Reached}
+use Rattle.book.specs.Given.{Bytes, Reached, begun, read}
 use Rattle.grow.specs.Grow.{with_fault, with_response}
 use Rattle.book.specs.Sound.{order_of}
-use Rattle.records.specs.Step.{start, record_bytes, rank_of, said_by, testRule, faultRule, responseRule, endRule}
+use Rattle.records.specs.Step.{start, record_bytes, rank_of, testRule, faultRule, responseRule, endRule}
+use Rattle.records.specs.declared.Outcome.TheVariants.{Given}
+use Rattle.records.specs.declared.Record.{Record}
 use Rattle.records.specs.declared.SoFar.{SoFar}
 use Rattle.records.specs.declared.Stage.{Stage}
 use Rattle.records.specs.declared.Stage.TheVariants.{Tests, Faults, Responses, Ended}
 use Rattle.records.specs.declared.Stepped.{Stepped}
-use Rattle.records.proofs.Steps.{StepGives, test, fault, response, ending, Steps, refuses, accepts, gives, steps}
-use Rattle.book_laws.proofs.Grown.{filled_here, filled_there, test-formed, fault-formed, response-formed, test-long, fault-long, response-long, test-typed, fault-typed, response-typed}
-use Rattle.book_laws.proofs.Stages.{Correct, StageFits, no_fault, no_response, correct_on}
+use Rattle.records.proofs.Steps.{Gives, test, fault, response, ending, Steps, refuses, accepts, gives, steps}
+use Rattle.book_laws.proofs.Grown.{Long, long_of, filled_here, filled_there, test-formed, fault-formed, response-formed, test-long, fault-long, response-long, test-typed, fault-typed, response-typed}
+use Rattle.book_laws.proofs.Stages.{Correct, Fits, no_fault, no_response, correct_on}
 use Rattle.book_laws.proofs.Body.{testsOf, faultsOf, wrongOf, body_of, book-body, body-most, body-test, body-fault, body-response}
 use Rattle.book_laws.proofs.Records.{record_of, given_bytes, taken_on}
 
@@ -46,7 +45,7 @@ pub record Good (book : List ℕ) (place : ℕ) (sofar : SoFar) : Type 0 where
   pub formed : WellFormed sofar.table
   pub long : Long sofar.table
   pub typed : Bytes book → OfType sofar.table
-  pub fits : StageFits sofar.stage sofar.table
+  pub fits : Fits sofar.stage sofar.table
   pub taken : take place book ≡ bytes_read sofar.stage sofar.table
   pub inside : place ≤ length book
 
@@ -58,7 +57,7 @@ pub start_good : (book : List ℕ) → Good book 0 start
 unfolding empty_table
 start_good book = record {
   formed = empty_formed;
-  long = empty_typed.long;
+  long = long_of empty_typed;
   typed = λ _. empty_typed;
   fits = refl;
   taken = empty_body;
@@ -76,7 +75,7 @@ fault_correct_lem tb l v w n h c t f a b d =
     (λ (e : f ≡ tb.faults). rw e (sym (filled_here tb.cells (tb.faults + 1) tb.tests t n.cells (omega arith) few a)))
     (below_cases f tb.faults (omega arith))
 
-response_fits : (tb : Table) (t f x : ℕ) → WellFormed tb → Long tb → t < tb.tests → f < tb.faults → (output_at tb t 0 ≡ x → ⊥) → Correct tb (order_of f t) → StageFits (Responses f t) (with_response tb t f x)
+response_fits : (tb : Table) (t f x : ℕ) → WellFormed tb → Long tb → t < tb.tests → f < tb.faults → (output_at tb t 0 ≡ x → ⊥) → Correct tb (order_of f t) → Fits (Responses f t) (with_response tb t f x)
 response_fits tb t f x w n h k ne c =
     let few = w.tests_fit in
     let fews = w.faults_fit in
@@ -88,7 +87,7 @@ response_fits tb t f x w n h k ne c =
       λ u g a b d. healthy u a ∙ c u g a b (omega arith) ∙ sym (cell_there tb.cells t (f + 1) x u (g + 1) (omega arith) (omega arith) (omega arith) (omega arith) (λ e q. omega arith)),
     )
 
-pub not_ended : (stage : Stage) (tb : Table) → eqb (rank_of stage) 3 ≡ false → bytes_read stage tb ≡ body_of tb
+not_ended : (stage : Stage) (tb : Table) → eqb (rank_of stage) 3 ≡ false → bytes_read stage tb ≡ body_of tb
 not_ended Tests tb u = refl
 not_ended Faults tb u = refl
 not_ended (Responses f t) tb u = refl
@@ -110,10 +109,10 @@ module _ {book : List ℕ} {place : ℕ} {sofar : SoFar} (g : Good book place so
   byte i = get_or book (place + i) 0
 
   -- the bytes up to the next place
-  grown : {s : Stepped} (k : StepGives book place sofar s) → take s.place book ≡ body_of tb ++ record_bytes (record_of k)
+  grown : {s : Stepped} (k : Gives book place sofar s) → take s.place book ≡ body_of tb ++ record_bytes (record_of k)
   grown {s} k = taken_on book place (record_of k) s.place (given_bytes k) ∙ ap (λ (x : List ℕ). x ++ record_bytes (record_of k)) (g.taken ∙ not_ended sofar.stage tb u)
 
-  pub good-step : {s : Stepped} → StepGives book place sofar s → Good book s.place s.sofar
+  pub good-step : {s : Stepped} → Gives book place sofar s → Good book s.place s.sofar
   unfolding testRule faultRule responseRule endRule
   good-step {s} (test h k) =
       let z = no_fault sofar.stage tb g.fits k.1.0 in
@@ -188,11 +187,11 @@ any_place {book} {place} {sofar} g = go sofar.stage g.taken
     go Ended e = omega (arith, ap length e, length-take place book, book_most sofar.table g.formed, g.inside)
 
 -- every start of a book
-kept : {book : List ℕ} {place : ℕ} {sofar : SoFar} {s : Stepped} → Good book place sofar → Steps book place sofar s → said_by s.outcome ≡ on → Good book s.place s.sofar
-kept g (refuses why) e = let z : ◌≡◌ {A = ℕ} 0 1 = cc in absurd (omega arith)
-kept g (accepts h u) e = let z : ◌≡◌ {A = ℕ} 0 1 = cc in absurd (omega arith)
-kept g (gives h u k) e = good-step g u k
+kept : {book : List ℕ} {place : ℕ} {sofar : SoFar} {s : Stepped} → Good book place sofar → Steps book place sofar s → (r : Record) → s.outcome ≡ Given r → Good book s.place s.sofar
+kept g (refuses why) r e = let z : ◌≡◌ {A = ℕ} 0 1 = cc in absurd (omega arith)
+kept g (accepts h u) r e = let z : ◌≡◌ {A = ℕ} 0 1 = cc in absurd (omega arith)
+kept g (gives h u k) r e = good-step g u k
 
 pub reached_good : {book : List ℕ} {place : ℕ} {sofar : SoFar} → Reached book place sofar → Good book place sofar
 reached_good {book} begun = start_good book
-reached_good {book} (read {place} {sofar} x o) = kept (reached_good x) (steps book place sofar) o
+reached_good {book} (read {place} {sofar} x r e) = kept (reached_good x) (steps book place sofar) r e

@@ -8,16 +8,24 @@ use native.Mathlib.Omega.{arith}
 use borrow.Author.Tests.{eq-eqb, eqb-true}
 use lib.ListN.{length, get_or, set, length-set}
 use lib.Seq.{get_or-set_same, get_or-set_other}
+use Rattle.folds.specs.Fold.{every}
 use Rattle.folds.proofs.Below.{below_cases}
 use Rattle.folds.proofs.Bools.{both_no, no_both}
 use Rattle.folds.proofs.Every.{every_at, every_of}
 use Rattle.table.specs.Table.{place_of, cell_at}
-use Rattle.table.specs.Form.{other_label, new_label}
-use Rattle.table.specs.WellFormed.{WellFormed}
-use Rattle.table.specs.OfType.{Long, OfType}
+use Rattle.table.specs.WellFormed.{WellFormed, OfType}
 use Rattle.table.specs.declared.Table.{Table}
 use Rattle.table.proofs.Stored.{cell_here, cell_there, stored, stored_byte, cell_byte}
-use Rattle.grow.specs.Grow.{with_test, filled, with_fault, with_response}
+use Rattle.grow.specs.Grow.{with_test, filled, with_fault, with_response, differs}
+
+-- the arrays' lengths
+pub record Long (tb : Table) : Type 0 where
+  pub cells : length tb.cells ≡ 1464
+  pub lines : length tb.lines ≡ 60
+  pub stuck : length tb.stuck ≡ 60
+
+pub long_of : {tb : Table} → OfType tb → Long tb
+long_of o = record { cells = o.cells_long; lines = o.lines_long; stuck = o.stuck_long }
 
 -- ---- a column filled with the correct outputs
 
@@ -54,13 +62,13 @@ filled_byte cells c (suc n) b k = stored_byte (filled cells c n) (place_of n c) 
 -- ---- a label that no fault has so far
 
 module _ (lines stuck : List ℕ) (l v n : ℕ) where
-  pub new-label : new_label lines stuck n l v ≡ true → (f : ℕ) → f < n → get_or lines f 0 ≡ l → get_or stuck f 0 ≡ v → ⊥
-  unfolding new_label other_label
-  new-label h f w p q = both_no _ _ (every_at (other_label lines stuck l v) n f h w) (eq-eqb _ _ p) (eq-eqb _ _ q)
+  pub new-label : every (differs lines stuck l v) n ≡ true → (f : ℕ) → f < n → get_or lines f 0 ≡ l → get_or stuck f 0 ≡ v → ⊥
+  unfolding differs
+  new-label h f w p q = both_no _ _ (every_at (differs lines stuck l v) n f h w) (eq-eqb _ _ p) (eq-eqb _ _ q)
 
-  pub label-new : ((f : ℕ) → f < n → get_or lines f 0 ≡ l → get_or stuck f 0 ≡ v → ⊥) → new_label lines stuck n l v ≡ true
-  unfolding new_label other_label
-  label-new h = every_of (other_label lines stuck l v) n (λ f w. no_both _ _ (λ p q. h f w (eqb-true _ _ p) (eqb-true _ _ q)))
+  pub label-new : ((f : ℕ) → f < n → get_or lines f 0 ≡ l → get_or stuck f 0 ≡ v → ⊥) → every (differs lines stuck l v) n ≡ true
+  unfolding differs
+  label-new h = every_of (differs lines stuck l v) n (λ f w. no_both _ _ (λ p q. h f w (eqb-true _ _ p) (eqb-true _ _ q)))
 
 -- ---- well formed
 
@@ -92,7 +100,7 @@ module _ (tb : Table) (w : WellFormed tb) where
   }
 
   module _ (long : Long tb) (l v : ℕ) (h : tb.faults < 60) where
-    label-one : (f g : ℕ) → g < f → f < tb.faults + 1 → new_label tb.lines tb.stuck tb.faults l v ≡ true
+    label-one : (f g : ℕ) → g < f → f < tb.faults + 1 → every (differs tb.lines tb.stuck l v) tb.faults ≡ true
         → get_or (set tb.lines tb.faults l) f 0 ≡ get_or (set tb.lines tb.faults l) g 0
         → get_or (set tb.stuck tb.faults v) f 0 ≡ get_or (set tb.stuck tb.faults v) g 0 → ⊥
     label-one f g k m e p q =
@@ -109,7 +117,7 @@ module _ (tb : Table) (w : WellFormed tb) where
         new-label tb.lines tb.stuck l v tb.faults e g (omega arith) (sym gl ∙ sym p ∙ fl) (sym gs ∙ sym q ∙ fs))
         (below_cases f tb.faults (omega arith))
 
-    pub fault-formed : v ≤ 1 → new_label tb.lines tb.stuck tb.faults l v ≡ true → WellFormed (with_fault tb l v)
+    pub fault-formed : v ≤ 1 → every (differs tb.lines tb.stuck l v) tb.faults ≡ true → WellFormed (with_fault tb l v)
     fault-formed hv e = record {
       tests_fit = w.tests_fit;
       faults_fit = omega arith;
@@ -138,25 +146,37 @@ module _ {tb : Table} where
   response-long t f x o = record { cells = simp length-set o.cells; lines = o.lines; stuck = o.stuck }
 
   pub test-typed : (x : ℕ) → x < 256 → OfType tb → OfType (with_test tb x)
-  test-typed x h o = record {
-    long = test-long x o.long;
-    cells_bytes = stored_byte tb.cells (place_of tb.tests 0) x h o.cells_bytes;
-    lines_bytes = o.lines_bytes;
-    stuck_bytes = o.stuck_bytes;
-  }
+  test-typed x h o =
+      let n = test-long x (long_of o) in
+      record {
+        cells_long = n.cells;
+        lines_long = n.lines;
+        stuck_long = n.stuck;
+        cells_bytes = stored_byte tb.cells (place_of tb.tests 0) x h o.cells_bytes;
+        lines_bytes = o.lines_bytes;
+        stuck_bytes = o.stuck_bytes;
+      }
 
   pub fault-typed : (l v : ℕ) → l < 256 → v < 256 → OfType tb → OfType (with_fault tb l v)
-  fault-typed l v h k o = record {
-    long = fault-long l v o.long;
-    cells_bytes = filled_byte tb.cells (tb.faults + 1) tb.tests o.cells_bytes;
-    lines_bytes = stored_byte tb.lines tb.faults l h o.lines_bytes;
-    stuck_bytes = stored_byte tb.stuck tb.faults v k o.stuck_bytes;
-  }
+  fault-typed l v h k o =
+      let n = fault-long l v (long_of o) in
+      record {
+        cells_long = n.cells;
+        lines_long = n.lines;
+        stuck_long = n.stuck;
+        cells_bytes = filled_byte tb.cells (tb.faults + 1) tb.tests o.cells_bytes;
+        lines_bytes = stored_byte tb.lines tb.faults l h o.lines_bytes;
+        stuck_bytes = stored_byte tb.stuck tb.faults v k o.stuck_bytes;
+      }
 
   pub response-typed : (t f x : ℕ) → x < 256 → OfType tb → OfType (with_response tb t f x)
-  response-typed t f x h o = record {
-    long = response-long t f x o.long;
-    cells_bytes = stored_byte tb.cells (place_of t (f + 1)) x h o.cells_bytes;
-    lines_bytes = o.lines_bytes;
-    stuck_bytes = o.stuck_bytes;
-  }
+  response-typed t f x h o =
+      let n = response-long t f x (long_of o) in
+      record {
+        cells_long = n.cells;
+        lines_long = n.lines;
+        stuck_long = n.stuck;
+        cells_bytes = stored_byte tb.cells (place_of t (f + 1)) x h o.cells_bytes;
+        lines_bytes = o.lines_bytes;
+        stuck_bytes = o.stuck_bytes;
+      }

@@ -6,7 +6,6 @@ pub mod Good
 pub mod Along
 pub mod Round
 pub mod Readings
-pub mod Tables
 pub mod Accepted
 pub mod Bytes
 pub mod Books

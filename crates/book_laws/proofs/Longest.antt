@@ -12,20 +12,19 @@ use Rattle.folds.specs.Fold.{listed, always}
 use Rattle.folds.proofs.All.{all_of, all_read, all_append, gather-all}
 use Rattle.folds.proofs.Gather.{listed-length, listed-get, always_true}
 use Rattle.folds.proofs.Joined.{joined_exact}
-use Rattle.table.specs.Table.{empty_table, table_with, output_at, line_of}
-use Rattle.table.specs.WellFormed.{WellFormed}
-use Rattle.table.specs.OfType.{OfType}
+use Rattle.table.specs.Table.{output_at, line_of}
+use Rattle.table.specs.WellFormed.{WellFormed, OfType}
+use Rattle.table.specs.declared.Reading.{Reading}
 use Rattle.table.specs.declared.Table.{Table}
+use Rattle.table.specs.declared.Verdict.TheVariants.{Accepted}
 use Rattle.table.proofs.Stored.{cells_of}
 use Rattle.table.proofs.Empty.{zero_label}
-use Rattle.checks.specs.Cursor.{Read}
-use Rattle.book.specs.BookOf.{testBytes, faultBytes, responseBytes, responsesOf, bookOf}
-use Rattle.book.specs.SomeStart.{Bytes}
+use Rattle.book.specs.BookOf.{testBytes, faultBytes, responseBytes, answersWrong, responsesOf, bookOf}
+use Rattle.book.specs.Given.{Bytes}
 use Rattle.book.specs.Reading.{read_book}
 use Rattle.book_laws.specs.Accepts.{Accepts}
 use Rattle.book_laws.proofs.Books.{book_accepts, accepted_most}
 use Rattle.book_laws.proofs.Bytes.{byte, book-all, book-bytes}
-use Rattle.book_laws.proofs.Stages.{wrong, differs-wrong}
 
 -- ---- 24 tests and 60 faults, each of which answers every test wrong
 
@@ -42,7 +41,7 @@ line : ℕ → ℕ
 line f = f
 
 full : Table
-full = table_with empty_table 24 60 (cells_of out small).0 (listed line 60) (replicate 60 0)
+full = record { tests = 24; faults = 60; cells = (cells_of out small).0; lines = listed line 60; stuck = replicate 60 0 }
 
 full_output : (t c : ℕ) → t < 24 → c < 61 → output_at full t c ≡ out t c
 unfolding full
@@ -66,22 +65,23 @@ full_formed = record {
 full_typed : OfType full
 unfolding full line
 full_typed = record {
-  long = record { cells = (cells_of out small).1; lines = listed-length line 60; stuck = length-replicate {A = ℕ} 60 0 };
+  cells_long = (cells_of out small).1;
+  lines_long = listed-length line 60;
+  stuck_long = length-replicate {A = ℕ} 60 0;
   cells_bytes = (cells_of out small).3;
   lines_bytes = all_read byte (omega arith) (listed line 60) (gather-all byte always line 60 (λ f h e. omega arith));
   stuck_bytes = λ f. omega (arith, zero_label f);
 }
 
-full_wrong : (t f : ℕ) → t < 24 → f < 60 → wrong full f t ≡ true
-unfolding out
-full_wrong t f h k = differs-wrong full f t (λ q.
+full_wrong : (t f : ℕ) → t < 24 → f < 60 → answersWrong full f t ≡ true
+unfolding answersWrong out
+full_wrong t f h k =
     let e : f + 1 ≡ suc f = omega arith in
-    let z : ◌≡◌ {A = ℕ} 0 1 = rw e at (sym (full_output t 0 h (omega arith)) ∙ q ∙ full_output t (f + 1) h (omega arith)) in
-    omega arith)
+    rw (full_output t 0 h (omega arith), full_output t (f + 1) h (omega arith), e)
 
 full_row : (f : ℕ) → f < 60 → length (responsesOf full f) ≡ 96
 unfolding responsesOf responseBytes full
-full_row f k = joined_exact (wrong full f) (responseBytes full f) 4 24 (λ t h. full_wrong t f h k) (λ t h. refl)
+full_row f k = joined_exact (answersWrong full f) (responseBytes full f) 4 24 (λ t h. full_wrong t f h k) (λ t h. refl)
 
 full_length : length (bookOf full) ≡ 5991
 unfolding bookOf testBytes faultBytes full
@@ -97,8 +97,8 @@ full_accepted = book_accepts (bookOf full) full (record { typed = full_typed; fo
 -- ---- the theorems
 
 -- "The longest book has 5,991 bytes"
-pub longest : (book : List ℕ) × Bytes book × (length book ≡ 5991) × ((read_book book).number ≡ 0)
-longest = (bookOf full, book-bytes full full_formed full_typed, full_length, ap (λ (r : Read). r.number) full_accepted)
+pub longest : (book : List ℕ) × Bytes book × (length book ≡ 5991) × ((read_book book).verdict ≡ Accepted)
+longest = (bookOf full, book-bytes full full_formed full_typed, full_length, ap (λ (r : Reading). r.verdict) full_accepted)
 
 -- two inputs that agree on their first 5,991 bytes, and have two readings
 pub unsettled : (a : List ℕ) × (b : List ℕ) × Bytes a × Bytes b × (take 5991 a ≡ take 5991 b) × (read_book a ≡ read_book b → ⊥)
@@ -112,6 +112,6 @@ unsettled = (bookOf full, bookOf full ++ (0 ∷ []), book-bytes full full_formed
 
     apart : read_book (bookOf full) ≡ read_book (bookOf full ++ (0 ∷ [])) → ⊥
     apart e =
-        let v = ap (λ (r : Read). r.number) (sym e ∙ full_accepted) in
+        let v = ap (λ (r : Reading). r.verdict) (sym e ∙ full_accepted) in
         let n = accepted_most (bookOf full ++ (0 ∷ [])) v in
         omega (arith, length-append (bookOf full) (0 ∷ []), full_length)

@@ -9,24 +9,44 @@ use native.Mathlib.Omega.{arith}
 use borrow.Author.Tests.{leb-true, eqb-true}
 use lib.Dec.{eqb, leb}
 use lib.ListN.{length, get_or}
-use Rattle.folds.specs.Fold.{whether, both, either}
+use Rattle.folds.specs.Fold.{pick, both, either}
 use Rattle.folds.proofs.Bools.{clash, both_left, both_right, either_cases}
 use Rattle.table.specs.Answers.{number_of}
+use Rattle.table.specs.declared.Reading.{Reading}
 use Rattle.table.specs.declared.Refusal.{Refusal}
-use Rattle.table.proofs.Answers.{number_bounds, number_one}
-use Rattle.checks.specs.Check.{Check, Rule, judged}
-use Rattle.checks.specs.Refuses.{Refuses}
-use Rattle.checks.specs.Cursor.{Read}
-use Rattle.checks.proofs.Passed.{AllPast, way, refuses-gives, gives-refuses}
 use Rattle.book.specs.Reading.{read_book}
-use Rattle.book.specs.RecordAt.{call_rule, record_at}
+use Rattle.book.specs.Sound.{call_rule, record_at}
 use Rattle.table.specs.Table.{empty_table}
-use Rattle.records.specs.StepIs.{outcome_number}
-use Rattle.records.specs.Step.{rank_of, refused_at, testRule, faultRule, responseRule, endRule, unknownRule, edgeRule, kindRule, ruleAt, stepAt}
+use Rattle.records.specs.Step.{Check, Rule, rank_of, refused_at, first_of, testRule, faultRule, responseRule, endRule, unknownRule, edgeRule, kindRule, ruleAt, stepAt}
+use Rattle.records.specs.declared.Outcome.TheVariants.{Given, Refused}
+use Rattle.records.specs.declared.Record.{Record}
 use Rattle.records.specs.declared.SoFar.{SoFar}
 use Rattle.records.specs.declared.Stepped.{Stepped}
-use Rattle.book_laws.specs.Refuses.{RefusedWith, StopsAt}
+use Rattle.records.proofs.Steps.{AllPast, way}
+use Rattle.book_laws.specs.Refuses.{Refuses, StopsAt}
 use Rattle.book_laws.proofs.Readings.{Ends, refused, accepted, ends, refused-reading}
+use Rattle.table.specs.declared.Verdict.TheVariants as verdict
+
+-- ---- one lemma over a list of checks
+
+module _ (place : ℕ) (gives : Stepped) (why : Refusal) where
+  -- where the condition holds, the step is the refusal
+  pub refuses-gives : (ks : List Check) → Refuses why ks → first_of ks place gives ≡ refused_at why place
+  unfolding first_of
+  refuses-gives [] r = absurd r
+  refuses-gives (k ∷ ks) (inl (h, e)) = rw (h, e)
+  refuses-gives (k ∷ ks) (inr (h, r)) = rw h (refuses-gives ks r)
+
+  -- and where the step is the refusal, the condition holds, if it is not what follows the checks
+  pub gives-refuses : (ks : List Check) → (AllPast ks → gives.outcome ≡ Refused why → ⊥) → (first_of ks place gives).outcome ≡ Refused why → Refuses why ks
+  unfolding first_of
+  gives-refuses [] n e = n tt e
+  gives-refuses (k ∷ ks) n e = go k.holds refl e (gives-refuses ks)
+    where
+      go : (b : Bool) → k.holds ≡ b → (pick b (refused_at k.why place) (first_of ks place gives)).outcome ≡ Refused why
+          → ((AllPast ks → gives.outcome ≡ Refused why → ⊥) → (first_of ks place gives).outcome ≡ Refused why → Refuses why ks) → Refuses why (k ∷ ks)
+      go true h e ih = inl (h, cc)
+      go false h e ih = inr (h, ih (λ past q. n (h, past) q) e)
 
 -- ---- the numbers of a list of checks
 
@@ -48,29 +68,29 @@ abbrev of_edge : ℕ → Bool
 of_edge n = either (eqb n 3) (eqb n 12)
 
 -- a rule has such numbers, and no refusal follows its checks that none of them gives
-record Right (p : ℕ → Bool) (r : Rule Stepped) : Type 0 where
+record Right (p : ℕ → Bool) (r : Rule) : Type 0 where
   numbered : all_of p r.checks ≡ true
-  follows : (why : Refusal) → AllPast r.checks → outcome_number r.gives.outcome ≡ number_of why → ⊥
+  follows : (why : Refusal) → AllPast r.checks → r.gives.outcome ≡ Refused why → ⊥
 
-not_refused : (why : Refusal) → 0 ≡ number_of why → ⊥
-not_refused why e = omega (arith, (number_bounds why).0)
+given_not : (r : Record) (why : Refusal) → Given r ≡ Refused why → ⊥
+given_not r why e = let z : ◌≡◌ {A = ℕ} 0 1 = cc in omega arith
 
 module _ (book : List ℕ) (place : ℕ) (sofar : SoFar) where
   test-right : Right of_record (testRule book place sofar)
   unfolding testRule
-  test-right = record { numbered = refl; follows = λ why k q. not_refused why q }
+  test-right = record { numbered = refl; follows = λ why k q. given_not _ why q }
 
   fault-right : Right of_record (faultRule book place sofar)
   unfolding faultRule
-  fault-right = record { numbered = refl; follows = λ why k q. not_refused why q }
+  fault-right = record { numbered = refl; follows = λ why k q. given_not _ why q }
 
   response-right : Right of_record (responseRule book place sofar)
   unfolding responseRule
-  response-right = record { numbered = refl; follows = λ why k q. not_refused why q }
+  response-right = record { numbered = refl; follows = λ why k q. given_not _ why q }
 
   end-right : Right of_record (endRule book place sofar)
   unfolding endRule
-  end-right = record { numbered = refl; follows = λ why k q. not_refused why q }
+  end-right = record { numbered = refl; follows = λ why k q. given_not _ why q }
 
   unknown-right : Right of_record (unknownRule book place sofar)
   unfolding unknownRule
@@ -78,7 +98,7 @@ module _ (book : List ℕ) (place : ℕ) (sofar : SoFar) where
 
   edge-right : Right of_edge (edgeRule book place sofar)
   unfolding edgeRule
-  edge-right = record { numbered = refl; follows = λ why k q. not_refused why q }
+  edge-right = record { numbered = refl; follows = λ why k q. let z : ◌≡◌ {A = ℕ} 0 1 = cc in omega arith }
 
   kind-right : (kind : ℕ) → Right of_record (kindRule book place sofar kind)
   unfolding kindRule
@@ -89,43 +109,30 @@ module _ (book : List ℕ) (place : ℕ) (sofar : SoFar) where
       way (Right of_record) (eqb kind 0x45) _ _ (λ _. end-right) λ _.
       unknown-right
 
-  rule-follows : (why : Refusal) → AllPast (ruleAt book place sofar).checks → outcome_number (ruleAt book place sofar).gives.outcome ≡ number_of why → ⊥
+  rule-follows : (why : Refusal) → AllPast (ruleAt book place sofar).checks → (ruleAt book place sofar).gives.outcome ≡ Refused why → ⊥
   unfolding ruleAt
   rule-follows why =
-      way (λ (r : Rule Stepped). AllPast r.checks → outcome_number r.gives.outcome ≡ number_of why → ⊥)
+      way (λ (r : Rule). AllPast r.checks → r.gives.outcome ≡ Refused why → ⊥)
       (either (leb (length book) place) (eqb (rank_of sofar.stage) 3)) _ _ (λ _. edge-right.follows why) (λ _. (kind-right (get_or book place 0)).follows why)
 
   -- ---- "Given exactly when"
 
-  -- where a rule refuses and its giving does not, the refusal's condition holds
-  rule-refuses : (why : Refusal) (r : Rule Stepped) → (AllPast r.checks → outcome_number r.gives.outcome ≡ number_of why → ⊥)
-      → outcome_number (judged (refused_at place) r).outcome ≡ number_of why → Refuses why r.checks
-  rule-refuses why r n e =
-      gives-refuses (refused_at place) why (λ (s : Stepped). outcome_number s.outcome ≡ number_of why) (λ x q. number_one x why q) r.checks r.gives n e
-
-  -- and where it holds, the rule refuses with its number
-  refused-with : (why : Refusal) (s : Stepped) → s ≡ refused_at place why → RefusedWith (number_of why) place s
-  refused-with why s e = rw e (record { number = refl; bytes = refl; place = refl; sofar = refl })
-
-  refused-step : (why : Refusal) → Refuses why (ruleAt book place sofar).checks → stepAt book place sofar ≡ refused_at place why
+  pub step-refuses : (why : Refusal) → Refuses why (ruleAt book place sofar).checks → stepAt book place sofar ≡ refused_at why place
   unfolding stepAt
-  refused-step why r = refuses-gives (refused_at place) why _ _ r
+  step-refuses why r = refuses-gives place (ruleAt book place sofar).gives why (ruleAt book place sofar).checks r
 
-  pub step-refuses : (why : Refusal) → Refuses why (ruleAt book place sofar).checks → RefusedWith (number_of why) place (stepAt book place sofar)
-  step-refuses why r = refused-with why _ (refused-step why r)
-
-  pub refuses-step : (why : Refusal) → outcome_number (stepAt book place sofar).outcome ≡ number_of why → Refuses why (ruleAt book place sofar).checks
+  pub refuses-step : (why : Refusal) → (stepAt book place sofar).outcome ≡ Refused why → Refuses why (ruleAt book place sofar).checks
   unfolding stepAt
-  refuses-step why e = rule-refuses why (ruleAt book place sofar) (rule-follows why) e
+  refuses-step why e = gives-refuses place (ruleAt book place sofar).gives why (ruleAt book place sofar).checks (rule-follows why) e
 
   -- with the call's own checks before them
-  pub call-refuses : (why : Refusal) → Refuses why (call_rule book place sofar).checks → RefusedWith (number_of why) place (record_at book place sofar)
+  pub call-refuses : (why : Refusal) → Refuses why (call_rule book place sofar).checks → record_at book place sofar ≡ refused_at why place
   unfolding record_at
-  call-refuses why r = refused-with why _ (refuses-gives (refused_at place) why _ _ r)
+  call-refuses why r = refuses-gives place (call_rule book place sofar).gives why (call_rule book place sofar).checks r
 
-  pub refuses-call : (why : Refusal) → outcome_number (record_at book place sofar).outcome ≡ number_of why → Refuses why (call_rule book place sofar).checks
+  pub refuses-call : (why : Refusal) → (record_at book place sofar).outcome ≡ Refused why → Refuses why (call_rule book place sofar).checks
   unfolding record_at call_rule
-  refuses-call why e = rule-refuses why (call_rule book place sofar) (λ k q. rule-follows why k.1.1 q) e
+  refuses-call why e = gives-refuses place (call_rule book place sofar).gives why (call_rule book place sofar).checks (λ k q. rule-follows why k.1.1 q) e
 
   -- ---- where a refusal is given: at the book's end or past the end record, or for a record
 
@@ -138,7 +145,7 @@ module _ (book : List ℕ) (place : ℕ) (sofar : SoFar) where
   unfolding ruleAt
   edge-or why = go (leb (length book) place) (eqb (rank_of sofar.stage) 3) refl refl
     where
-      go : (a b : Bool) → leb (length book) place ≡ a → eqb (rank_of sofar.stage) 3 ≡ b → Refuses why (whether (either a b) (edgeRule book place sofar) (kindRule book place sofar (get_or book place 0))).checks → EdgeOr why
+      go : (a b : Bool) → leb (length book) place ≡ a → eqb (rank_of sofar.stage) 3 ≡ b → Refuses why (pick (either a b) (edgeRule book place sofar) (kindRule book place sofar (get_or book place 0))).checks → EdgeOr why
       go true b l u r = inl (inl (leb-true (length book) place l), r)
       go false true l u r = inl (inr u, r)
       go false false l u r = inr (one_of of_record why (kindRule book place sofar (get_or book place 0)).checks (kind-right (get_or book place 0)).numbered r)
@@ -153,28 +160,14 @@ module _ (book : List ℕ) (place : ℕ) (sofar : SoFar) where
 
 -- ---- a whole book: reading got to the place, and there the refusal is given
 
-pub reading_stops : (book : List ℕ) (why : Refusal) → (read_book book).number ≡ number_of why → StopsAt book why (read_book book).place
+pub reading_stops : (book : List ℕ) (why : Refusal) → (read_book book).verdict ≡ verdict.Refused why → StopsAt book why (read_book book).place
 reading_stops book why h = go (ends book) h
   where
-    go : {r : Read} → Ends book r → r.number ≡ number_of why → StopsAt book why r.place
-    go (refused {place} {sofar} x w e) q = record { sofar = sofar; reached = x; refuses = refuses-step book place sofar why (rw e q) }
-    go (accepted x l u e) q = absurd (not_refused why q)
+    go : {r : Reading} → Ends book r → r.verdict ≡ verdict.Refused why → StopsAt book why r.place
+    go (refused {place} {sofar} x w e) q =
+        let same : w ≡ why = cc in
+        record { sofar = sofar; reached = x; refuses = refuses-step book place sofar why (rw (e, same)) }
+    go (accepted x l u e) q = let z : ◌≡◌ {A = ℕ} 0 1 = cc in absurd (omega arith)
 
-pub stops_reading : (book : List ℕ) (why : Refusal) (place : ℕ) → StopsAt book why place → read_book book ≡ record { number = number_of why; place = place; table = empty_table }
-stops_reading book why place r = refused-reading r.reached why (refused-step book place r.sofar why r.refuses)
-
--- a reading gives no other number than 0 to 12
-pub number_most : (book : List ℕ) → (read_book book).number ≤ 12
-number_most book = go (ends book)
-  where
-    go : {r : Read} → Ends book r → r.number ≤ 12
-    go (refused {place} {sofar} x why e) = step-number book place sofar why (refuses-step book place sofar why (rw e refl))
-    go (accepted x l u e) = omega arith
-
--- a refused reading gives "the empty table"
-pub refused_empty : (book : List ℕ) → ((read_book book).number ≡ 0 → ⊥) → (read_book book).table ≡ empty_table
-refused_empty book = go (ends book)
-  where
-    go : {r : Read} → Ends book r → (r.number ≡ 0 → ⊥) → r.table ≡ empty_table
-    go (refused x why e) n = refl
-    go (accepted x l u e) n = absurd (n refl)
+pub stops_reading : (book : List ℕ) (why : Refusal) (place : ℕ) → StopsAt book why place → read_book book ≡ record { verdict = verdict.Refused why; place = place; table = empty_table }
+stops_reading book why place r = refused-reading r.reached why (step-refuses book place r.sofar why r.refuses)

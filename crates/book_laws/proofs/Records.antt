@@ -7,23 +7,21 @@ use native.Mathlib.Omega.{arith}
 use borrow.Author.Tests.{ltb-false}
 use lib.ListN.{length, get_or, take, drop}
 use lib.Seq.{drop-cons, take-add}
-use Rattle.records.specs.StepIs.{outcome_bytes}
 use Rattle.records.specs.Step.{record_bytes, testRule, faultRule, responseRule, endRule, stepAt}
 use Rattle.records.specs.declared.Outcome.TheVariants.{Given}
 use Rattle.records.specs.declared.Record.{Record}
 use Rattle.records.specs.declared.Record.TheVariants.{Test, Fault, Response, End}
 use Rattle.records.specs.declared.SoFar.{SoFar}
 use Rattle.records.specs.declared.Stepped.{Stepped}
-use Rattle.records.proofs.Answers.{given_by}
 use Rattle.book_laws.specs.Records.{BytesAt}
-use Rattle.records.proofs.Steps.{StepGives, test, fault, response, ending, Steps, refuses, accepts, gives, steps}
+use Rattle.records.proofs.Steps.{Gives, test, fault, response, ending, Steps, refuses, accepts, gives, steps}
 
 -- the bytes from a place on, one by one
 pub cons_at : (book : List ℕ) (place : ℕ) → place < length book → drop place book ≡ get_or book place 0 ∷ drop (place + 1) book
 cons_at book place l = let e : place + 1 ≡ suc place = omega arith in rw e (drop-cons book place 0 l)
 
 -- the record that was given
-abbrev pub record_of : {book : List ℕ} {place : ℕ} {sofar : SoFar} {s : Stepped} → StepGives book place sofar s → Record
+abbrev pub record_of : {book : List ℕ} {place : ℕ} {sofar : SoFar} {s : Stepped} → Gives book place sofar s → Record
 record_of {book} {place} (test h k) = Test (get_or book (place + 1) 0)
 record_of {book} {place} (fault h k) = Fault (get_or book (place + 1) 0) (get_or book (place + 2) 0)
 record_of {book} {place} (response h k) = Response (get_or book (place + 1) 0) (get_or book (place + 2) 0) (get_or book (place + 3) 0)
@@ -44,7 +42,7 @@ module _ (book : List ℕ) (place : ℕ) where
       let r : place + 2 + 1 ≡ place + 3 = omega arith in
       rw (cons_at book place (omega arith), cons_at book (place + 1) (omega arith), q, cons_at book (place + 2) (omega arith), r, cons_at book (place + 3) (omega arith))
 
-pub given_bytes : {book : List ℕ} {place : ℕ} {sofar : SoFar} {s : Stepped} (g : StepGives book place sofar s) → BytesAt book place (record_of g) s.place
+pub given_bytes : {book : List ℕ} {place : ℕ} {sofar : SoFar} {s : Stepped} (g : Gives book place sofar s) → BytesAt book place (record_of g) s.place
 unfolding testRule faultRule responseRule endRule
 given_bytes {book} {place} (test h k) =
     let l : place + 2 ≤ length book = omega (arith, ltb-false) in
@@ -59,7 +57,7 @@ given_bytes {book} {place} (ending h k) =
     let l : place + 3 ≤ length book = omega (arith, ltb-false) in
     record { bytes = at₃ book place l ∙ rw h refl; further = refl; inside = l }
 
-pub given_record : {book : List ℕ} {place : ℕ} {sofar : SoFar} {s : Stepped} (g : StepGives book place sofar s) → s.outcome ≡ Given (record_of g)
+pub given_record : {book : List ℕ} {place : ℕ} {sofar : SoFar} {s : Stepped} (g : Gives book place sofar s) → s.outcome ≡ Given (record_of g)
 unfolding testRule faultRule responseRule endRule
 given_record (test h k) = refl
 given_record (fault h k) = refl
@@ -71,8 +69,8 @@ pub taken_on : (book : List ℕ) (place : ℕ) (r : Record) (next : ℕ) → Byt
 taken_on book place r next b = rw b.further (take-add place (length (record_bytes r)) book ∙ ap (λ (x : List ℕ). take place book ++ x) b.bytes)
 
 -- the theorem, of a step
-pub record_there : (book : List ℕ) (place : ℕ) (sofar : SoFar) (r : Record) → outcome_bytes (stepAt book place sofar).outcome ≡ record_bytes r → BytesAt book place r (stepAt book place sofar).place
-record_there book place sofar r e = go (steps book place sofar) (given_by _ r e)
+pub record_there : (book : List ℕ) (place : ℕ) (sofar : SoFar) (r : Record) → (stepAt book place sofar).outcome ≡ Given r → BytesAt book place r (stepAt book place sofar).place
+record_there book place sofar r e = go (steps book place sofar) e
   where
     go : {s : Stepped} → Steps book place sofar s → s.outcome ≡ Given r → BytesAt book place r s.place
     go (refuses why) e = let z : ◌≡◌ {A = ℕ} 0 1 = cc in absurd (omega arith)

@@ -1,45 +1,44 @@
--- What stands before the end record of a well-formed table's book leads to the whole table. Assumes nothing.
+-- The book of a well-formed table leads to its end record with that table. Assumes nothing.
 use mathlib.Core.Bool.{true, false}
-use mathlib.Core.List.{List, ◌++◌, append_assoc}
+use mathlib.Core.List.{List, ◌++◌}
 use mathlib.Core.Logic.{inl, inr, ⊎_elim}
 use mathlib.Core.Path.{◌≡◌, refl, sym, ◌∙◌}
 use Prim.Native.Nat.{ℕ, zero, suc, ◌+◌, ◌≤◌, ◌<◌}
 use native.Mathlib.Numerals.{add-one}
 use native.Mathlib.Omega.{arith}
-use borrow.Author.Tests.{le-ltb, lt-leb, ne_eqb}
+use borrow.Author.Tests.{le-ltb, lt-leb, ne_eqb, eqb-true, eqb-false, not-true, not-false}
 use lib.Dec.{eqb}
 use lib.ListN.{length, get_or, set}
 use lib.Seq.{get_or-set_same, get_or-set_other, ext_get_or}
-use Rattle.folds.specs.Fold.{joined, always}
+use Rattle.folds.specs.Fold.{joined, every, always}
 use Rattle.folds.proofs.Below.{lt_or_ge, eq_or_ne, below_cases}
 use Rattle.folds.proofs.Bools.{both_false, clash}
 use Rattle.folds.proofs.Gather.{always_true}
 use Rattle.folds.proofs.Rows.{joined-run}
-use Rattle.table.specs.Table.{empty_table, table_with, output_at, line_of, stuck_of}
-use Rattle.table.specs.Form.{new_label}
+use Rattle.table.specs.Table.{empty_table, output_at, line_of, stuck_of}
 use Rattle.table.specs.WellFormed.{WellFormed}
-use Rattle.table.specs.OfType.{Long}
 use Rattle.table.specs.declared.Table.{Table}
 use Rattle.table.proofs.Stored.{cell_here, cell_there, cells_same}
-use Rattle.book.specs.BookOf.{testBytes, faultBytes, responseBytes, responsesOf, bookOf}
-use Rattle.checks.specs.Reached.{begun}
-use Rattle.grow.specs.Grow.{with_test, with_fault, with_response}
+use Rattle.book.specs.BookOf.{testBytes, faultBytes, responseBytes, answersWrong, responsesOf, bookOf}
+use Rattle.book.specs.Given.{begun}
+use Rattle.grow.specs.Grow.{with_test, with_fault, with_response, differs}
 use Rattle.book.specs.Sound.{order_of}
 use Rattle.records.specs.Step.{record_bytes, rank_of, not_after}
 use Rattle.records.specs.declared.Record.TheVariants.{Test, Fault, Response, End}
 use Rattle.records.specs.declared.Stage.{Stage}
 use Rattle.records.specs.declared.Stage.TheVariants.{Tests, Faults, Responses, Ended}
 use Rattle.book_laws.proofs.Along.{Along, along, go_on, test-step, fault-step, response-step}
-use Rattle.book_laws.proofs.Body.{testsOf, faultsOf, wrongOf, body_of, book-body}
 use Rattle.book_laws.proofs.Good.{reached_good}
-use Rattle.book_laws.proofs.Grown.{filled_here, filled_there, label-new}
-use Rattle.book_laws.proofs.Stages.{wrong, wrong-differs, right-same}
+use Rattle.book_laws.proofs.Grown.{Long, filled_here, filled_there, label-new}
 
 -- a table is its parts
 pub table_same : {u t : Table} → u.tests ≡ t.tests → u.faults ≡ t.faults → u.cells ≡ t.cells → u.lines ≡ t.lines → u.stuck ≡ t.stuck → u ≡ t
 table_same {u} {t} a b c d e = whole
   where
-    whole : table_with u u.tests u.faults u.cells u.lines u.stuck ≡ table_with t t.tests t.faults t.cells t.lines t.stuck
+    made : ℕ → ℕ → List ℕ → List ℕ → List ℕ → Table
+    made m n x y z = record { tests = m; faults = n; cells = x; lines = y; stuck = z }
+
+    whole : made u.tests u.faults u.cells u.lines u.stuck ≡ made t.tests t.faults t.cells t.lines t.stuck
     whole = rw (a, b, c, d, e)
 
 -- two lists of 60 labels that agree below n, and are zero from there
@@ -90,7 +89,7 @@ module _ (t : Table) (w : WellFormed t) (o : Long t) where
     outputs = λ i c h l. let z : c ≡ 0 = omega arith in rw z (a.outputs i h);
   }
 
-  fresh-label : (k : ℕ) (u : Table) → k < t.faults → After-faults k u → new_label u.lines u.stuck u.faults (line_of t k) (stuck_of t k) ≡ true
+  fresh-label : (k : ℕ) (u : Table) → k < t.faults → After-faults k u → every (differs u.lines u.stuck (line_of t k) (stuck_of t k)) u.faults ≡ true
   fresh-label k u h a =
       rw a.faults (label-new u.lines u.stuck _ _ k (λ f l p q. w.distinct k f l h (sym p ∙ a.lines f l) (sym q ∙ a.stuck f l)))
 
@@ -198,25 +197,25 @@ module _ (t : Table) (w : WellFormed t) (o : Long t) where
 
   -- ---- the stage before the response at a place
 
-  abbrev Ahead : Stage → ℕ → Type 0
-  Ahead Tests n = Unit {0}
-  Ahead Faults n = Unit {0}
-  Ahead (Responses g j) n = (order_of g j < n) × (j < 24)
-  Ahead Ended n = ⊥
+  abbrev Before : Stage → ℕ → Type 0
+  Before Tests n = Unit {0}
+  Before Faults n = Unit {0}
+  Before (Responses g j) n = (order_of g j < n) × (j < 24)
+  Before Ended n = ⊥
 
-  before-rank : (s : Stage) (n : ℕ) → Ahead s n → rank_of s ≤ 2
+  before-rank : (s : Stage) (n : ℕ) → Before s n → rank_of s ≤ 2
   before-rank Tests n b = omega arith
   before-rank Faults n b = omega arith
   before-rank (Responses g j) n b = omega arith
   before-rank Ended n b = absurd b
 
-  before_more : (s : Stage) (n m : ℕ) → n ≤ m → Ahead s n → Ahead s m
+  before_more : (s : Stage) (n m : ℕ) → n ≤ m → Before s n → Before s m
   before_more Tests n m h b = tt
   before_more Faults n m h b = tt
   before_more (Responses g j) n m h b = (omega (arith, b.0), b.1)
   before_more Ended n m h b = b
 
-  before-after : (s : Stage) (f i : ℕ) → i < 24 → Ahead s (order_of f i) → not_after s f i ≡ false
+  before-after : (s : Stage) (f i : ℕ) → i < 24 → Before s (order_of f i) → not_after s f i ≡ false
   before-after Tests f i h b = refl
   before-after Faults f i h b = refl
   before-after Ended f i h b = absurd b
@@ -233,7 +232,7 @@ module _ (t : Table) (w : WellFormed t) (o : Long t) where
   At-faults k s u = (rank_of s ≤ 1) × After-faults k u
 
   abbrev At-responses : ℕ → Stage → Table → Type 0
-  At-responses n s u = Ahead s n × After-responses n u
+  At-responses n s u = Before s n × After-responses n u
 
   module _ (book : List ℕ) where
     long-at : {rest : List ℕ} {P : Stage → Table → Type 0} (a : Along book rest P) → Long a.table
@@ -264,23 +263,23 @@ module _ (t : Table) (w : WellFormed t) (o : Long t) where
         → Along book rest (At-responses n) → Along book rest (At-responses m)
     pass n m l same a = along (At-responses m) a (before_more a.stage n m l a.holds.0, later n m a.table l same a.holds.1)
 
-    row-run : (f : ℕ) (rest : List ℕ) → f < t.faults → Along book (joined (wrong t f) (responseBytes t f) t.tests ++ rest) (At-responses (order_of f 0)) → Along book rest (At-responses (order_of f t.tests))
-    unfolding responseBytes
-    row-run f rest hf a = joined-run (wrong t f) (responseBytes t f) t.tests (λ i rest. Along book rest (At-responses (order_of f i))) took passed rest a
+    row-run : (f : ℕ) (rest : List ℕ) → f < t.faults → Along book (joined (answersWrong t f) (responseBytes t f) t.tests ++ rest) (At-responses (order_of f 0)) → Along book rest (At-responses (order_of f t.tests))
+    unfolding answersWrong responseBytes
+    row-run f rest hf a = joined-run (answersWrong t f) (responseBytes t f) t.tests (λ i rest. Along book rest (At-responses (order_of f i))) took passed rest a
       where
-        took : (i : ℕ) (rest : List ℕ) → i < t.tests → wrong t f i ≡ true → Along book (record_bytes (Response i f (output_at t i (f + 1))) ++ rest) (At-responses (order_of f i)) → Along book rest (At-responses (order_of f (i + 1)))
+        took : (i : ℕ) (rest : List ℕ) → i < t.tests → answersWrong t f i ≡ true → Along book (record_bytes (Response i f (output_at t i (f + 1))) ++ rest) (At-responses (order_of f i)) → Along book rest (At-responses (order_of f (i + 1)))
         took i rest hi x b =
             let c = b.holds.1 in
-            let ne = wrong-differs t f i x in
+            let ne : output_at t i 0 ≡ output_at t i (f + 1) → ⊥ = eqb-false _ _ (not-true (eqb (output_at t i 0) (output_at t i (f + 1))) x) in
             let next : order_of f i + 1 ≡ order_of f (i + 1) = omega arith in
             go_on (At-responses (order_of f (i + 1))) (Response i f (output_at t i (f + 1))) b (with_response b.table i f (output_at t i (f + 1))) (Responses f i)
             (response-step book b.place b.table b.stage _ i f (output_at t i (f + 1)) b.left (before-rank b.stage _ b.holds.0) (omega (arith, hi, c.tests)) (omega (arith, hf, c.faults))
             (before-after b.stage f i (omega (arith, hi, few)) b.holds.0) (λ z. ne (sym (c.healthy i hi) ∙ z)))
             ((omega arith, omega (arith, hi, few)), rw next at (more-responses i f b.table (long-at b) hi hf c))
 
-        passed : (i : ℕ) (rest : List ℕ) → i < t.tests → wrong t f i ≡ false → Along book rest (At-responses (order_of f i)) → Along book rest (At-responses (order_of f (i + 1)))
+        passed : (i : ℕ) (rest : List ℕ) → i < t.tests → answersWrong t f i ≡ false → Along book rest (At-responses (order_of f i)) → Along book rest (At-responses (order_of f (i + 1)))
         passed i rest hi x b =
-            let same = right-same t f i x in
+            let same = eqb-true _ _ (not-false (eqb (output_at t i 0) (output_at t i (f + 1))) x) in
             pass (order_of f i) (order_of f (i + 1)) (omega arith)
             (λ j g h k y z.
             let p : j ≡ i = omega (arith, few) in
@@ -298,18 +297,18 @@ module _ (t : Table) (w : WellFormed t) (o : Long t) where
 
   -- ---- the whole book
 
-  at-start : (book rest : List ℕ) → book ≡ rest → Along book rest (At-tests 0)
+  at-start : Along (bookOf t) (bookOf t) (At-tests 0)
   unfolding empty_table
-  at-start book rest e = record {
+  at-start = record {
     place = 0;
     table = empty_table;
     stage = Tests;
     reached = begun;
-    left = e;
+    left = refl;
     holds = (omega arith, record { tests = refl; faults = refl; outputs = λ i h. absurd (omega arith) });
   }
 
-  low : (s : Stage) → rank_of s ≤ 1 → Ahead s 0
+  low : (s : Stage) → rank_of s ≤ 1 → Before s 0
   low Tests h = tt
   low Faults h = tt
   low (Responses g j) h = absurd (omega arith)
@@ -318,26 +317,21 @@ module _ (t : Table) (w : WellFormed t) (o : Long t) where
   abbrev pub At-end : Stage → Table → Type 0
   At-end s u = (u ≡ t) × (rank_of s ≤ 2)
 
-  whole : {book rest : List ℕ} → Along book rest (At-responses (order_of t.faults 0)) → Along book rest At-end
+  whole : {rest : List ℕ} → Along (bookOf t) rest (At-responses (order_of t.faults 0)) → Along (bookOf t) rest At-end
   whole a =
       let g = reached_good a.reached in
       along At-end a (after-all (order_of t.faults 0) a.table g.formed g.long (omega arith) a.holds.1, before-rank a.stage (order_of t.faults 0) a.holds.0)
 
-  from-faults : {book rest : List ℕ} → Along book rest (At-tests t.tests) → Along book rest (At-faults 0)
+  from-faults : {rest : List ℕ} → Along (bookOf t) rest (At-tests t.tests) → Along (bookOf t) rest (At-faults 0)
   from-faults a = along (At-faults 0) a (omega (arith, a.holds.0), no_faults a.table a.holds.1)
 
-  from-responses : {book rest : List ℕ} → Along book rest (At-faults t.faults) → Along book rest (At-responses 0)
+  from-responses : {rest : List ℕ} → Along (bookOf t) rest (At-faults t.faults) → Along (bookOf t) rest (At-responses 0)
   from-responses a = along (At-responses 0) a (low a.stage a.holds.0, no-responses a.table a.holds.1)
 
-  -- whatever follows it
-  pub run : (rest : List ℕ) → Along (body_of t ++ rest) rest At-end
-  unfolding body_of testsOf faultsOf wrongOf
-  run rest =
-      let book = body_of t ++ rest in
-      whole (responses-run book rest
-      (from-responses (faults-run book _
-      (from-faults (tests-run book _ (at-start book _ (simp append_assoc)))))))
-
-  -- the table's book leads to its end record
-  pub book-run : Along (bookOf t) (record_bytes (End t.tests t.faults)) At-end
-  book-run = rw (book-body t) (run (record_bytes (End t.tests t.faults)))
+  -- the table's book leads to its end record, with the whole table
+  pub run : Along (bookOf t) (record_bytes (End t.tests t.faults)) At-end
+  unfolding bookOf
+  run =
+      whole (responses-run (bookOf t) _
+      (from-responses (faults-run (bookOf t) _
+      (from-faults (tests-run (bookOf t) _ at-start)))))

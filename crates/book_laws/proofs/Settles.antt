@@ -1,69 +1,93 @@
 -- The first 5,992 bytes of an input settle its reading. The sentences are document 01's. Assumes nothing.
 use mathlib.Core.Bool.{Bool, true, false}
 use mathlib.Core.List.{List}
-use mathlib.Core.Path.{◌≡◌, refl}
-use Prim.Native.Nat.{ℕ, ◌+◌, ◌≤◌}
+use mathlib.Core.Logic.{⊎_elim}
+use mathlib.Core.Path.{◌≡◌, refl, sym, ap, ◌∙◌}
+use Prim.Native.Nat.{ℕ, ◌+◌, ◌<◌, ◌≤◌, min}
 use native.Mathlib.Omega.{arith}
-use lib.Dec.{eqb, leb}
-use lib.ListN.{length, get_or, take}
-use Rattle.folds.specs.Fold.{whether, either}
-use Rattle.checks.specs.Cursor.{Read}
-use Rattle.checks.proofs.Alike.{Alike, alike}
-use Rattle.checks.proofs.Twins.{twins}
-use Rattle.book.specs.SomeStart.{Reached}
-use Rattle.book.specs.Reading.{cursor, read_book}
-use Rattle.book.proofs.Loop.{advances}
+use borrow.Author.Tests.{lt-ltb, le-ltb, le-leb, lt-leb}
+use lib.Dec.{eqb, ltb, leb}
+use lib.ListN.{length, get_or, take, length-take}
+use lib.Seq.{get_or-take}
+use Rattle.folds.specs.Fold.{pick, either}
+use Rattle.folds.proofs.Below.{lt_or_ge}
+use Rattle.table.specs.declared.Reading.{Reading}
+use Rattle.book.specs.Given.{Reached, begun, read}
+use Rattle.book.specs.Reading.{read_book}
 use Rattle.records.specs.Step.{rank_of, testRule, faultRule, responseRule, endRule, unknownRule, edgeRule, kindRule, ruleAt, stepAt}
 use Rattle.records.specs.declared.SoFar.{SoFar}
 use Rattle.book_laws.proofs.Good.{Good, reached_good, open_place, any_place}
-use Rattle.book_laws.proofs.Readings.{Ends, refused, accepted, ends}
+use Rattle.book_laws.proofs.Readings.{Ends, refused, accepted, ends, refused-reading, accepted-reading}
 
 module _ (a b : List ℕ) (same : take 5992 a ≡ take 5992 b) where
-  first : Alike 5992 a b
-  first = alike 5992 a b same
+  byte : (k : ℕ) → k < 5992 → get_or a k 0 ≡ get_or b k 0
+  byte k h = sym (get_or-take 5992 a k 0 h) ∙ ap (λ l. get_or l k 0) same ∙ get_or-take 5992 b k 0 h
+
+  lengths : min 5992 (length a) ≡ min 5992 (length b)
+  lengths = sym (length-take 5992 a) ∙ ap length same ∙ length-take 5992 b
+
+  -- where the book stops among them is the same
+  cut : (m : ℕ) → m ≤ 5992 → ltb (length a) m ≡ ltb (length b) m
+  cut m h =
+      ⊎_elim
+      (λ (l : length a < m). lt-ltb (length a) m l ∙ sym (lt-ltb (length b) m (omega (arith, lengths))))
+      (λ (l : m ≤ length a). le-ltb (length a) m l ∙ sym (le-ltb (length b) m (omega (arith, lengths))))
+      (lt_or_ge (length a) m)
+
+  over : (k : ℕ) → k < 5992 → leb (length a) k ≡ leb (length b) k
+  over k h =
+      ⊎_elim
+      (λ (l : k < length a). lt-leb (length a) k l ∙ sym (lt-leb (length b) k (omega (arith, lengths))))
+      (λ (l : length a ≤ k). le-leb (length a) k l ∙ sym (le-leb (length b) k (omega (arith, lengths))))
+      (lt_or_ge k (length a))
+
+  follows : (k : ℕ) → k < 5992 → ltb k (length a) ≡ ltb k (length b)
+  follows k h =
+      ⊎_elim
+      (λ (l : k < length a). lt-ltb k (length a) l ∙ sym (lt-ltb k (length b) (omega (arith, lengths))))
+      (λ (l : length a ≤ k). le-ltb k (length a) l ∙ sym (le-ltb k (length b) (omega (arith, lengths))))
+      (lt_or_ge k (length a))
 
   -- a record whose bytes are among them is judged the same
   module _ (place : ℕ) (sofar : SoFar) (h : place + 4 ≤ 5992) where
     kind-same : kindRule a place sofar (get_or a place 0) ≡ kindRule b place sofar (get_or b place 0)
     unfolding kindRule testRule faultRule responseRule endRule unknownRule
     kind-same =
-        let s = first in
-        rw (
-          s.byte place (omega arith),
-          s.byte (place + 1) (omega arith),
-          s.byte (place + 2) (omega arith),
-          s.byte (place + 3) (omega arith),
-          s.cut (place + 2) (omega arith),
-          s.cut (place + 3) (omega arith),
-          s.cut (place + 4) (omega arith),
-        )
+        rw (byte place (omega arith), byte (place + 1) (omega arith), byte (place + 2) (omega arith), byte (place + 3) (omega arith), cut (place + 2) (omega arith), cut (place + 3) (omega arith), cut (place + 4) (omega arith))
 
   rule-same : (place : ℕ) (sofar : SoFar) → Good a place sofar → ruleAt a place sofar ≡ ruleAt b place sofar
   unfolding ruleAt edgeRule
   rule-same place sofar g =
       let l = any_place g in
-      rw (first.over place (omega arith), first.follows place (omega arith)) (go (leb (length b) place) (eqb (rank_of sofar.stage) 3) refl)
+      rw (over place (omega arith), follows place (omega arith)) (go (leb (length b) place) (eqb (rank_of sofar.stage) 3) refl)
     where
-      go : (x y : Bool) → eqb (rank_of sofar.stage) 3 ≡ y
-          → whether (either x y) (edgeRule b place sofar) (kindRule a place sofar (get_or a place 0))
-          ≡ whether (either x y) (edgeRule b place sofar) (kindRule b place sofar (get_or b place 0))
+      go : (x y : Bool) → eqb (rank_of sofar.stage) 3 ≡ y → pick (either x y) (edgeRule b place sofar) (kindRule a place sofar (get_or a place 0)) ≡ pick (either x y) (edgeRule b place sofar) (kindRule b place sofar (get_or b place 0))
       go true y u = refl
       go false true u = refl
       go false false u = kind-same place sofar (omega (arith, open_place g u))
 
-  step_same : (place : ℕ) (sofar : SoFar) → Reached a place sofar → stepAt a place sofar ≡ stepAt b place sofar
+  step_same : {place : ℕ} {sofar : SoFar} → Reached a place sofar → stepAt a place sofar ≡ stepAt b place sofar
   unfolding stepAt
-  step_same place sofar x = rw (rule-same place sofar (reached_good x))
+  step_same {place} {sofar} x = rw (rule-same place sofar (reached_good x))
+
+  reached-same : {place : ℕ} {sofar : SoFar} → Reached a place sofar → Reached b place sofar
+  reached-same begun = begun
+  reached-same (read {place} {sofar} x r e) =
+      let q = step_same x in
+      rw q (read (reached-same x) r (rw q at e))
 
   -- "the first 5,992 bytes of any input settle the reader's answer"
   pub settles : read_book a ≡ read_book b
-  unfolding read_book
-  settles = twins cursor a stepAt b step_same (advances a) (advances b)
+  settles = go (ends a)
+    where
+      go : {r : Reading} → Ends a r → r ≡ read_book b
+      go (refused x why e) = sym (refused-reading (reached-same x) why (sym (step_same x) ∙ e))
+      go (accepted x l u e) = sym (accepted-reading (reached-same x) (sym (step_same x) ∙ e))
 
 -- every place that a reading gives is in the book, and at most 5,991
 pub place_most : (book : List ℕ) → ((read_book book).place ≤ 5991) × ((read_book book).place ≤ length book)
 place_most book = go (ends book)
   where
-    go : {r : Read} → Ends book r → (r.place ≤ 5991) × (r.place ≤ length book)
+    go : {r : Reading} → Ends book r → (r.place ≤ 5991) × (r.place ≤ length book)
     go (refused x why e) = let g = reached_good x in (any_place g, g.inside)
     go (accepted x l u e) = let g = reached_good x in (any_place g, g.inside)

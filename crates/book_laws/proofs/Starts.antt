@@ -5,24 +5,24 @@ use mathlib.Core.Path.{◌≡◌}
 use Prim.Native.Nat.{ℕ, ◌≤◌}
 use native.Mathlib.Omega.{arith}
 use Rattle.folds.proofs.Bools.{both_true, both_left, both_right}
-use Rattle.table.specs.Form.{well_formed}
-use Rattle.table.specs.WellFormed.{WellFormed}
-use Rattle.table.specs.OfType.{OfType}
+use Rattle.table.specs.Test.{well_formed}
+use Rattle.table.specs.WellFormed.{WellFormed, OfType}
 use Rattle.table.specs.declared.Table.{Table}
 use Rattle.table.proofs.Formed.{formed, tested}
 use Rattle.book.specs.BookOf.{bookOf}
-use Rattle.book.specs.SomeStart.{Reached, SomeStart}
+use Rattle.book.specs.Given.{Reached, SomeStart}
 use Rattle.book.specs.Sound.{sound_test}
 use Rattle.records.specs.Step.{rank_of}
 use Rattle.records.specs.declared.SoFar.{SoFar}
 use Rattle.records.specs.declared.Stage.{Stage}
 use Rattle.records.specs.declared.Stage.TheVariants.{Tests, Faults, Responses, Ended}
-use Rattle.book_laws.proofs.Accepted.{book-ended}
+use Rattle.book_laws.proofs.Accepted.{past_end}
 use Rattle.book_laws.proofs.Along.{so, Along}
 use Rattle.book_laws.proofs.Bytes.{book-bytes}
 use Rattle.book_laws.proofs.Good.{reached_good}
-use Rattle.book_laws.proofs.Round.{book-run}
-use Rattle.book_laws.proofs.Stages.{StageFits, fits_tested, tested_fits, one_stage}
+use Rattle.book_laws.proofs.Grown.{long_of}
+use Rattle.book_laws.proofs.Round.{run}
+use Rattle.book_laws.proofs.Stages.{Fits, fits_tested, tested_fits, one_stage}
 
 -- ---- what a start of a book gives passes the test
 
@@ -38,19 +38,19 @@ start_sound sofar (book, place, b, x) = reached_sound x
 -- ---- what passes the test is given by a start of its own table's book
 
 module _ (tb : Table) (o : OfType tb) (w : WellFormed tb) where
-  before-end : (s : Stage) → rank_of s ≤ 2 → StageFits s tb → (k : ℕ) × Reached (bookOf tb) k (so tb s)
-  before-end s h f = go (book-run tb w o.long)
+  before-end : (s : Stage) → rank_of s ≤ 2 → Fits s tb → (k : ℕ) × Reached (bookOf tb) k (so tb s)
+  before-end s h f = go (run tb w (long_of o))
     where
       go : {rest : List ℕ} → Along (bookOf tb) rest (λ s u. (u ≡ tb) × (rank_of s ≤ 2)) → (k : ℕ) × Reached (bookOf tb) k (so tb s)
       go a =
           let x : Reached (bookOf tb) a.place (so tb a.stage) = rw a.holds.0 at a.reached in
           (a.place, rw (one_stage a.stage s tb w.tests_fit a.holds.1 h (reached_good x).fits f) at x)
 
-  by-stage : (s : Stage) → StageFits s tb → (k : ℕ) × Reached (bookOf tb) k (so tb s)
+  by-stage : (s : Stage) → Fits s tb → (k : ℕ) × Reached (bookOf tb) k (so tb s)
   by-stage Tests f = before-end Tests (omega arith) f
   by-stage Faults f = before-end Faults (omega arith) f
   by-stage (Responses g t) f = before-end (Responses g t) (omega arith) f
-  by-stage Ended f = let a = book-ended tb w o.long in (a.place, rw (a.holds.0, a.holds.1) at a.reached)
+  by-stage Ended f = let a = past_end tb w (long_of o) in (a.place, rw (a.holds.0, a.holds.1) at a.reached)
 
 pub sound_start : (sofar : SoFar) → OfType sofar.table → sound_test sofar ≡ true → SomeStart sofar
 unfolding sound_test

@@ -6,32 +6,23 @@ use Prim.Native.Nat.{ℕ, suc, ◌+◌, ◌-◌, ◌%◌, ◌^◌, ◌≤◌, �
 use native.Mathlib.Nat.{mod-eq_of_lt, lt_of_lt_of_le, eq-or-lt_of_le, mod-lt}
 use native.Mathlib.Numerals.{add-one}
 use native.Mathlib.Omega.{arith}
-use borrow.Author.Tests.{le-leb, lt-leb}
 use lib.Bits.{bit_and}
 use lib.ListN.{length, get_or}
 use lib.Pow.{pow_mono, pow_pos}
-use mir.Syntax.{w32}
-use mir.Val.{Fits}
 use Rattle.folds.proofs.Below.{lt_or_ge}
-use Rattle.sets.specs.Sets.{bit, weight, Before}
-use Rattle.sets.specs.Inner.{weight_in, Shares}
+use Rattle.sets.specs.Sets.{bit, weight, Before, Shares}
 use Rattle.sets.proofs.Bits.{bit_cases, mod_in, mod_out, bit_low, bit_high, bit_below, top_lt, top_below}
 use Rattle.sets.proofs.Order.{precedes-weight}
-use Rattle.sets.proofs.Weight.{weight-top, weight-most}
+use Rattle.sets.proofs.Weight.{weight-top}
 use Rattle.sets.proofs.Shared.{shares, shares_not}
 use Rattle.choice.specs.declared.search.Found.{Found}
 use Rattle.choice.specs.declared.search.Found.TheVariants.{Set, Nothing}
-use Rattle.choice.specs.Search.{Positive, Weights, FirstUnhit, Node, Open, NoneBelow, NeedsMore, Best, limit_after, or_else}
+use Rattle.choice.specs.Search.{FirstUnhit, Node, Open, NeedsMore, Best, limit_after, or_else}
 use Rattle.choice.proofs.Weights.{agreed-weight, agreed-same}
 
 -- two sets that agree below t, with t in the first alone
 before_at : (s s' t : ℕ) → s % 2 ^ t ≡ s' % 2 ^ t → bit s t ≡ 1 → bit s' t ≡ 0 → Before s s'
 before_at s s' t e a b = (t, a, b, λ j l. sym (bit_low s t j l) ∙ ap (λ (x : ℕ). bit x j) e ∙ bit_low s' t j l)
-
--- the weight of a set that is found
-abbrev weight_or : Found → ℕ → ℕ
-weight_or (Set s n) limit = n
-weight_or Nothing limit = limit
 
 module _ (w : ℕ → ℕ) (masks : List ℕ) (keep t chosen : ℕ) where
   open-limit : (limit limit' s : ℕ) → Open w masks keep t chosen limit s → weight w s < limit' → Open w masks keep t chosen limit' s
@@ -45,9 +36,9 @@ module _ (w : ℕ → ℕ) (masks : List ℕ) (keep t chosen : ℕ) where
     λ s' o. ⊎_elim (λ h. b.2 s' (open-limit limit' limit s' o h)) (λ h. inl (omega (arith, b.0.light))) (lt_or_ge (weight w s') limit),
   )
 
-  -- the same for the set and the limits as the code has them
-  pub best-found : (floor all top s n : ℕ) (r : Found) → r ≡ Set s n → floor < all → all ≡ top → Best w masks keep t chosen (floor + 1) r → Best w masks keep t chosen (top + 1) r
-  best-found floor all top s n r e l q b = rw e (best-raised (floor + 1) (top + 1) s n (omega arith) (rw e at b))
+  -- the same for the set as the code has it
+  pub best-found : (limit limit' s n : ℕ) (r : Found) → r ≡ Set s n → limit ≤ limit' → Best w masks keep t chosen limit r → Best w masks keep t chosen limit' r
+  best-found limit limit' s n r e l b = rw e (best-raised limit limit' s n l (rw e at b))
 
   open-in-down : (limit s : ℕ) → bit s t ≡ 1 → Open w masks keep t chosen limit s → Open w masks keep (t + 1) (chosen + 2 ^ t) limit s
   open-in-down limit s e o = record {
@@ -110,7 +101,7 @@ module _ (w : ℕ → ℕ) (masks : List ℕ) (keep t chosen : ℕ) where
 
     -- test t is keep: `first` is the best with t in, `later` the best with t out and lighter than `first`
     best-join : (limit : ℕ) (first later : Found) → bit keep t ≡ 1 → Best w masks keep (t + 1) (chosen + 2 ^ t) limit first
-        → Best w masks keep (t + 1) chosen (weight_or first limit) later → Best w masks keep t chosen limit (or_else later first)
+        → Best w masks keep (t + 1) chosen (limit_after first limit) later → Best w masks keep t chosen limit (or_else later first)
     best-join limit (Set s n) (Set r m) k a b = (
       open-limit n limit r (open-out-up n r b.0) (omega (arith, b.0.light, a.1, a.0.light)),
       b.1,
@@ -136,46 +127,14 @@ module _ (w : ℕ → ℕ) (masks : List ℕ) (keep t chosen : ℕ) where
     best-join limit Nothing Nothing k a b = λ s' o.
         ⊎_elim (λ e. b s' (open-out-down limit s' e o)) (λ e. a s' (open-in-down limit s' e o)) (bit_cases s' t)
 
-    -- no set below the floor at the nodes below
-    pub none_in : (floor : ℕ) → bit keep t ≡ 1 → NoneBelow w masks keep t chosen floor → NoneBelow w masks keep (t + 1) (chosen + 2 ^ t) floor
-    none_in floor k h = record { none = λ s o. h.none s (open-in-up floor s k o) }
+    -- the same for the answer as the code has it
+    pub best-joined : (limit : ℕ) (first later r : Found) → r ≡ or_else later first → bit keep t ≡ 1 → Best w masks keep (t + 1) (chosen + 2 ^ t) limit first
+        → Best w masks keep (t + 1) chosen (limit_after first limit) later → Best w masks keep t chosen limit r
+    best-joined limit first later r e k a b = rw e (best-join limit first later k a b)
 
-    pub none_out : (floor : ℕ) → NoneBelow w masks keep t chosen floor → NoneBelow w masks keep (t + 1) chosen floor
-    none_out floor h = record { none = λ s o. h.none s (open-out-up floor s o) }
-
-    -- the same for the answer as the code has it: where `first` weighs no more than the floor, no set is lighter
-    pub best-joined : (limit floor : ℕ) (first later r : Found) → NoneBelow w masks keep t chosen floor → r ≡ or_else later first → bit keep t ≡ 1
-        → Best w masks keep (t + 1) (chosen + 2 ^ t) limit first → Best w masks keep (t + 1) chosen (limit_after first limit floor) later → Best w masks keep t chosen limit r
-    best-joined limit floor first later r h e k a b = rw e (go first later a b)
-      where
-        at-floor : (s n : ℕ) (later : Found) → n ≤ floor → Best w masks keep (t + 1) (chosen + 2 ^ t) limit (Set s n)
-            → Best w masks keep (t + 1) chosen 0 later → Best w masks keep t chosen limit (or_else later (Set s n))
-        at-floor s n (Set r m) l a b = absurd (omega (arith, b.0.light))
-        at-floor s n Nothing l a b = best-join limit (Set s n) Nothing k a (λ s' o. h.none s' (open-limit n floor s' (open-out-up n s' o) (omega (arith, o.light))))
-
-        go : (first later : Found) → Best w masks keep (t + 1) (chosen + 2 ^ t) limit first
-            → Best w masks keep (t + 1) chosen (limit_after first limit floor) later → Best w masks keep t chosen limit (or_else later first)
-        go (Set s n) later a b = ⊎_elim
-            (λ (l : floor < n). best-join limit (Set s n) later k a (rw (lt-leb n floor l) at b))
-            (λ (l : n ≤ floor). at-floor s n later l a (rw (le-leb n floor l) at b))
-            (lt_or_ge floor n)
-        go Nothing later a b = best-join limit Nothing later k a b
-
--- ---- the floor
-
-module _ (w : ℕ → ℕ) (masks : List ℕ) (keep t chosen : ℕ) where
-  pub none-zero : NoneBelow w masks keep t chosen 0
-  none-zero = record { none = λ s o. omega (arith, o.light) }
-
-  pub none_found : (limit : ℕ) (r : Found) → r ≡ Nothing → Best w masks keep t chosen limit r → NoneBelow w masks keep t chosen limit
-  none_found limit r e b = record { none = rw e at b }
-
-module _ (first : Found) (limit floor s n : ℕ) (e : first ≡ Set s n) where
-  pub limit-none : n ≤ floor → 0 ≡ limit_after first limit floor
-  limit-none l = rw (e, le-leb n floor l)
-
-  pub limit-found : floor < n → n ≡ limit_after first limit floor
-  limit-found l = rw (e, lt-leb n floor l)
+pub limit_after_le : (w : ℕ → ℕ) (masks : List ℕ) (keep t chosen limit : ℕ) (r : Found) → Best w masks keep t chosen limit r → limit_after r limit ≤ limit
+limit_after_le w masks keep t chosen limit (Set s n) b = omega (arith, b.1, b.0.light)
+limit_after_le w masks keep t chosen limit Nothing b = omega arith
 
 -- every test is decided, and a mask is not hit
 pub best_end : (w : ℕ → ℕ) (masks : List ℕ) (keep t chosen limit at : ℕ) → at < length masks → bit_and (get_or masks at 0) chosen ≡ 0 → t ≡ 24
@@ -189,16 +148,16 @@ module _ (w : ℕ → ℕ) (masks : List ℕ) (from t chosen used : ℕ) (node :
   pub best-full : (keep limit : ℕ) → limit ≤ used → Best w masks keep t chosen limit Nothing
   best-full keep limit h s' o = omega (arith, agreed-weight w t chosen s' node.depth node.decided o.agrees, o.light, node.weighed)
 
-  -- each open set needs more than there is room for
-  pub best-crowded : Positive w → (keep limit n : ℕ) → used < limit → NeedsMore masks keep t chosen n → limit - used ≤ n → Best w masks keep t chosen limit Nothing
-  best-crowded positive keep limit n h more l s' o = omega (arith, more w positive limit s' o, o.light, node.weighed)
+  -- each open set needs more tests than there is room for
+  pub best-crowded : (keep limit n : ℕ) → used < limit → NeedsMore w masks keep t chosen n → limit - used ≤ n → Best w masks keep t chosen limit Nothing
+  best-crowded keep limit n h more l s' o = omega (arith, more limit s' o, o.light, node.weighed)
 
   module _ (at : ℕ) (unhit : FirstUnhit masks from chosen at) where
     hit-to : (k : ℕ) → k < at → Shares (get_or masks k 0) chosen
     hit-to k l = ⊎_elim (λ h. node.hit k h) (λ h. shares (get_or masks k 0) chosen (unhit.passed k h l)) (lt_or_ge k from)
 
     -- every mask is hit
-    pub best-hit : Positive w → (keep limit : ℕ) → at ≡ length masks → used < limit → Best w masks keep t chosen limit (Set chosen used)
+    pub best-hit : ((i : ℕ) → 0 < w i) → (keep limit : ℕ) → at ≡ length masks → used < limit → Best w masks keep t chosen limit (Set chosen used)
     best-hit positive keep limit e l = (
       record {
         below = lt_of_lt_of_le node.decided (pow_mono node.depth);
@@ -231,7 +190,3 @@ module _ (w : ℕ → ℕ) (masks : List ℕ) (from t chosen used : ℕ) (node :
       hit = λ k h. let m = hit-to k h in
           (m.0, m.1, top_below chosen t m.0 node.decided (bit_below t chosen m.0 node.decided m.2) ∙ m.2);
     }
-
--- the weight that a node has used fits 32 bits
-pub used_fits : (ws : List ℕ) → Weights ws → (masks : List ℕ) (from t chosen used : ℕ) → Node (weight_in ws) masks from t chosen used → Fits w32 used
-used_fits ws fit masks from t chosen used node = omega (arith, node.weighed, weight-most (weight_in ws) chosen, fit.fit)

@@ -1,4 +1,3 @@
-pub mod Least
+pub mod Order
 pub mod Search
-pub mod ChoiceIs
-pub mod Found
+pub mod Answer

@@ -1,23 +1,13 @@
 // The first of the smallest sets of tests that reach a goal.
-ghost use Rattle.std.specs.Prelude.{◌≡◌};
+ghost use Rattle.std.specs.Prelude.{◌≡◌, ◌≤◌};
 ghost use Rattle.table.specs.WellFormed.{WellFormed};
-ghost use Rattle.choice.specs.ChoiceIs.{ChoiceIs};
-ghost use Rattle.choice.specs.Found.{Weighs, Sought, within_cap};
-ghost use Rattle.choice.specs.Search.{Weights};
+ghost use Rattle.choice.specs.Answer.{Sought, within_cap, ChoiceIs};
 
 use search::Found;
-use table::{Chosen, Goal, Refusal, Table, Verdict};
+use table::{Chosen, Goal, Refusal, Table};
 
-mod least;
+mod order;
 mod search;
-
-// What each test weighs: 1, so that the lightest sets are the smallest.
-fn weights_of(table: Table) -> [u32; 24]
-    ensures weighs { Weighs table result }
-    ensures weights { Weights result }
-{
-    [1; 24]
-}
 
 // What the search finds among the kept tests.
 fn chosen_for(table: Table, goal: Goal) -> Found
@@ -26,12 +16,10 @@ fn chosen_for(table: Table, goal: Goal) -> Found
 {
     let masks = cover::inner::masks_of(table, goal);
     let n = masks.count;
-    let list = masks.list;
+    let mut list = masks.list;
     let kept = cover::inner::kept_tests(&list[..n], table.tests);
-    let mut few: [u32; 1830] = [0; 1830];
-    let k = least::least_masks(&list[..n], kept, &mut few[..n]);
-    let weights = weights_of(table);
-    search::lightest(&few[..k], &weights, kept)
+    order::few_first(&mut list[..n], kept);
+    search::lightest(&list[..n], kept)
 }
 
 // The set that was found, where it weighs no more than the cap.
@@ -48,15 +36,14 @@ fn within_cap(found: Found, cap: u32) -> Chosen
     }
 }
 
-// The choice for the goal, where it weighs no more than the cap.
+// The choice for the goal, where it has no more tests than the cap.
 pub fn choose(table: Table, goal: Goal, cap: u32) -> Chosen
     ensures { ChoiceIs table goal cap result }
 {
-    let verdict = asks::inner::goal_verdict(table, goal);
-    if let Verdict::Refused(why) = verdict {
-        return Chosen::Refused(why);
+    if !table::well_formed(table) {
+        return Chosen::Refused(Refusal::NotWellFormed);
     }
-    if cap > table::CAP_LIMIT {
+    if cap > 24 {
         return Chosen::Refused(Refusal::CapTooHigh);
     }
     within_cap(chosen_for(table, goal), cap)

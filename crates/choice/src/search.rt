@@ -1,8 +1,7 @@
 // The search for the first of the lightest sets of kept tests that share a test with every mask.
-ghost use Rattle.std.specs.Prelude.{◌≡◌, ◌+◌, ◌^◌, ◌≤◌, ◌<◌, length};
-ghost use Rattle.folds.specs.Fold.{total};
-ghost use Rattle.sets.specs.Inner.{weight_in};
-ghost use Rattle.choice.specs.Search.{Weights, FirstUnhit, Node, RestOf, NoneBelow, NeedsMore, Best, limit_after, or_else};
+ghost use Rattle.std.specs.Prelude.{◌≡◌, ◌≤◌, ◌<◌, ◌^◌, length};
+ghost use Rattle.sets.specs.Sets.{one};
+ghost use Rattle.choice.specs.Search.{FirstUnhit, Node, RestOf, OneMore, NeedsMore, Best, limit_after, or_else};
 
 // A set of tests with its weight, or nothing.
 #[derive(Drop)]
@@ -11,18 +10,18 @@ pub enum Found {
     Nothing,
 }
 
-// The weight of all tests together.
-fn weight_of_all(weights: &[u32; 24]) -> u32
-    requires { Weights weights.now }
-    ensures { result ≡ total (weight_in weights.now) 24 }
+// Masks that share no test with each other: the tests that they have, and a weight that hitting them all takes.
+#[derive(Drop)]
+struct Spread {
+    taken: u32,
+    weight: u32,
+}
+
+// What test t weighs.
+fn weight_of(t: usize) -> u32
+    ensures { result ≡ one t }
 {
-    let mut sum: u32 = 0;
-    let mut t: usize = 0;
-    while t < 24 {
-        sum += weights[t];
-        t += 1;
-    }
-    sum
+    1
 }
 
 // The first mask from `from` on that shares no test with `chosen`, or the number of masks.
@@ -40,12 +39,12 @@ fn first_unhit(masks: &[u32], from: usize, chosen: u32) -> usize
     i
 }
 
-// The limit for the sets that come later: the weight of the one found, or 0 where no set weighs less.
-fn limit_after(first: Found, limit: u32, floor: u32) -> u32
-    ensures { result ≡ limit_after first limit floor }
+// The limit for the sets that come later: the weight of the one found.
+fn limit_after(first: Found, limit: u32) -> u32
+    ensures { result ≡ limit_after first limit }
 {
     match first {
-        Found::Set(_, weight) => if weight <= floor { 0 } else { weight },
+        Found::Set(_, weight) => weight,
         Found::Nothing => limit,
     }
 }
@@ -68,42 +67,58 @@ fn rest_of(kept: u32, t: usize) -> u32
     (kept >> t) << t
 }
 
-// A weight that every set still needs, at most `room` or 1: of the masks that are not hit each that shares no test with those
-// taken before it is taken, and needs a test of its own.
+// With one mask more, where it is not hit and shares no test that is left with those taken: it needs a test of its own.
+fn with_mask(spread: Spread, mask: u32, chosen: u32, rest: u32) -> Spread
+    requires { spread.weight < 25 }
+    ensures { OneMore spread.taken spread.weight mask chosen rest result.taken result.weight }
+{
+    let left = mask & rest;
+    if mask & chosen != 0 {
+        return spread;
+    }
+    if left & spread.taken != 0 {
+        return spread;
+    }
+    Spread {
+        taken: left | spread.taken,
+        weight: spread.weight + 1,
+    }
+}
+
+// A weight that every set still needs, at most `room`.
 fn still_needed(masks: &[u32], from: usize, kept: u32, t: usize, chosen: u32, room: u32) -> u32
-    requires { (t < 24) × (chosen < 2 ^ t) × (from ≤ length masks.now) }
-    ensures { NeedsMore masks.now kept t chosen result }
+    requires { (t < 24) × (chosen < 2 ^ t) × (from ≤ length masks.now) × (room ≤ 25) }
+    ensures { NeedsMore one masks.now kept t chosen result }
 {
     let rest = rest_of(kept, t);
-    let mut taken: u32 = 0;
-    let mut weight: u32 = 0;
-    let mut i = first_unhit(masks, from, chosen);
+    let mut spread = Spread {
+        taken: 0,
+        weight: 0,
+    };
+    let mut i = from;
     while i < masks.len() {
-        taken = (masks[i] & rest) | taken;
-        weight += 1;
+        let weight = spread.weight;
         if room <= weight {
             return weight;
         }
-        i = first_unhit(masks, i + 1, chosen | taken);
+        spread = with_mask(spread, masks[i], chosen, rest);
+        i += 1;
     }
-    weight
+    spread.weight
 }
 
-// The first of the lightest sets below `limit` that hit every mask, are `chosen` below t and take kept tests from t on. None
-// weighs less than `floor`.
-fn best<'a>(
-    masks: &'a [u32],
-    weights: &'a [u32; 24],
+// The first of the lightest sets below `limit` that hit every mask, are `chosen` below t and take kept tests from t on.
+fn best(
+    masks: &[u32],
     from: usize,
     kept: u32,
     t: usize,
     chosen: u32,
     used: u32,
     limit: u32,
-    floor: u32,
 ) -> Found
-    requires { Weights weights.now × Node (weight_in weights.now) masks.now from t chosen used × NoneBelow (weight_in weights.now) masks.now kept t chosen floor }
-    ensures { Best (weight_in weights.now) masks.now kept t chosen limit result }
+    requires { Node one masks.now from t chosen used × (limit ≤ 25) }
+    ensures { Best one masks.now kept t chosen limit result }
 {
     if limit <= used {
         return Found::Nothing;
@@ -119,30 +134,33 @@ fn best<'a>(
         return Found::Nothing;
     }
     if !sets::inner::has(kept, t) {
-        return best(masks, weights, at, kept, t + 1, chosen, used, limit, floor);
+        return best(masks, at, kept, t + 1, chosen, used, limit);
     }
-    let with = cover::inner::set_with(chosen, t, true);
-    let heavier = used + weights[t];
-    let first = best(masks, weights, at, kept, t + 1, with, heavier, limit, floor);
-    let lower = limit_after(first, limit, floor);
-    let later = best(masks, weights, at, kept, t + 1, chosen, used, lower, floor);
+    let with = cover::inner::with_test(chosen, t, true);
+    let first = best(masks, at, kept, t + 1, with, used + weight_of(t), limit);
+    let later = best(
+        masks,
+        at,
+        kept,
+        t + 1,
+        chosen,
+        used,
+        limit_after(first, limit),
+    );
     or_else(later, first)
 }
 
-// The first of the lightest sets. The limit rises until a set is below it, so that no heavier set is looked into; no set
-// weighs more than all tests.
-pub fn lightest<'a>(masks: &'a [u32], weights: &'a [u32; 24], kept: u32) -> Found
-    requires { Weights weights.now }
-    ensures { Best (weight_in weights.now) masks.now kept 0 0 (total (weight_in weights.now) 24 + 1) result }
+// The first of the lightest sets. The limit rises until a set is below it, so that no heavier set is looked into.
+pub fn lightest(masks: &[u32], kept: u32) -> Found
+    ensures { Best one masks.now kept 0 0 25 result }
 {
-    let all = weight_of_all(weights);
-    let mut floor: u32 = 0;
-    while floor < all {
-        let found = best(masks, weights, 0, kept, 0, 0, 0, floor + 1, floor);
+    let mut limit: u32 = 1;
+    while limit < 25 {
+        let found = best(masks, 0, kept, 0, 0, 0, limit);
         match found {
             Found::Set(_, _) => return found,
-            Found::Nothing => floor += 1,
+            Found::Nothing => limit += 1,
         }
     }
-    best(masks, weights, 0, kept, 0, 0, 0, all + 1, all)
+    best(masks, 0, kept, 0, 0, 0, 25)
 }

@@ -8,22 +8,18 @@ use borrow.Author.Tests.{eqb-true, eqb-false, ne_eqb, ltb-true, not-true}
 use lib.Bits.{bit_and}
 use lib.Dec.{eqb, ltb}
 use lib.ListN.{length, get_or}
-use Rattle.folds.specs.Fold.{always, both, either, every, joined, single, total}
-use Rattle.folds.specs.Some.{some}
+use Rattle.folds.specs.Fold.{both, either, every, some}
 use Rattle.folds.proofs.Bools.{both_left, both_right, either_cases, either_second}
 use Rattle.folds.proofs.Every.{every_at, every_of}
 use Rattle.folds.proofs.Some.{some_at}
-use Rattle.sets.specs.Sets.{bit, has, one, share, weight, Within, Before, Precedes}
-use Rattle.sets.specs.Inner.{within}
-use Rattle.sets.specs.Collect.{set_of, set_with}
+use Rattle.sets.specs.Sets.{bit, has, within, size, one, Within, Before, Precedes}
 use Rattle.sets.proofs.Bits.{has_bit, lacks_bit, within_tells, below_of_bits}
 use Rattle.sets.proofs.Shared.{shares, shares_not}
-use Rattle.table.specs.Table.{agrees, cell_at, place_of, separates}
 use Rattle.table.specs.declared.Goal.{Goal}
 use Rattle.table.specs.declared.Table.{Table}
-use Rattle.terms.specs.Choice.{test_weight, Choice}
+use Rattle.terms.specs.Choice.{Choice}
 use Rattle.terms.specs.Terms.{TestOf, Reaches}
-use Rattle.cover.specs.Masks.{Hits, counts, goalMask, goal_pair, mask_of, maskRow, masks_of}
+use Rattle.cover.specs.Masks.{Hits, masks_of}
 use Rattle.cover.proofs.Goals.{hits-reaches, reaches-hits}
 
 -- ---- the order of sets
@@ -36,6 +32,10 @@ module _ (s s' : ℕ) where
   unfoldable pub leadsIn : ℕ → Bool
   leadsIn t = both (has s t) (both (not (has s' t)) (every sameIn t))
 
+  -- s has fewer tests; or as many, and is the same set or an earlier one
+  unfoldable pub precedes : Bool
+  precedes = either (ltb (size s) (size s')) (both (eqb (size s) (size s')) (either (eqb s s') (some leadsIn 24)))
+
   leads : (t : ℕ) → leadsIn t ≡ true → Before s s'
   unfolding leadsIn sameIn
   leads t h =
@@ -46,23 +46,18 @@ module _ (s s' : ℕ) where
         λ u l. eqb-true _ _ (every_at sameIn t u (both_right (not (has s' t)) _ rest) l),
       )
 
-module _ (w : ℕ → ℕ) (s s' : ℕ) where
-  -- s is lighter; or as heavy, and is the same set or an earlier one
-  unfoldable pub precedes : Bool
-  precedes = either (ltb (weight w s) (weight w s')) (both (eqb (weight w s) (weight w s')) (either (eqb s s') (some (leadsIn s s') 24)))
-
-  precedes-by : precedes ≡ true → Precedes w s s'
+  precedes-by : precedes ≡ true → Precedes one s s'
   unfolding precedes
   precedes-by h = ⊎_elim
       (λ e. inl (ltb-true _ _ e))
       (λ e. inr (
-        eqb-true _ _ (both_left (eqb (weight w s) (weight w s')) _ e),
+        eqb-true _ _ (both_left (eqb (size s) (size s')) _ e),
         ⊎_elim
             (λ same. inl (eqb-true s s' same))
-            (λ d. let l = some_at (leadsIn s s') 24 d in inr (leads s s' l.0 l.2))
-            (either_cases (eqb s s') _ (both_right (eqb (weight w s) (weight w s')) _ e)),
+            (λ d. let w = some_at leadsIn 24 d in inr (leads w.0 w.2))
+            (either_cases (eqb s s') _ (both_right (eqb (size s) (size s')) _ e)),
       ))
-      (either_cases (ltb (weight w s) (weight w s')) _ h)
+      (either_cases (ltb (size s) (size s')) _ h)
 
 -- ---- sets that hit every mask
 
@@ -101,19 +96,14 @@ module _ (tb : Table) (goal : Goal) where
       (rw (all-hits (masks_of tb goal) s (reaches-hits tb goal s r)))
 
   unfoldable pub isChoice : ℕ → Bool
-  isChoice s = both (within s tb.tests) (both (hits (masks_of tb goal) s) (eachReaching (precedes (test_weight tb) s)))
+  isChoice s = both (within s tb.tests) (both (hits (masks_of tb goal) s) (eachReaching (precedes s)))
 
   pub choice-by : (s : ℕ) → isChoice s ≡ true → Choice tb goal s
   unfolding isChoice
   choice-by s h =
-      let rest : both (hits (masks_of tb goal) s) (eachReaching (precedes (test_weight tb) s)) ≡ true = both_right (within s tb.tests) _ h in
+      let rest : both (hits (masks_of tb goal) s) (eachReaching (precedes s)) ≡ true = both_right (within s tb.tests) _ h in
       record {
         within = within_tells s tb.tests (both_left (within s tb.tests) _ h);
         reaches = hits-reaches tb goal s (hits-all (masks_of tb goal) s (both_left (hits (masks_of tb goal) s) _ rest));
-        first = λ s' w r. precedes-by (test_weight tb) s s' (each-reaching (precedes (test_weight tb) s) (both_right (hits (masks_of tb goal) s) _ rest) s' w r);
+        first = λ s' w r. precedes-by s s' (each-reaching (precedes s) (both_right (hits (masks_of tb goal) s) _ rest) s' w r);
       }
-
--- to unfold it is to unfold all that the test of a choice is computed by
-unfoldable pub choosing : Table → Goal → ℕ → Bool
-unfolding isChoice eachReaching hitting hits hitsAt precedes leadsIn sameIn within has total share one bit masks_of maskRow counts goalMask goal_pair mask_of set_of set_with separates agrees joined single always every some cell_at place_of
-choosing = isChoice

@@ -1,4 +1,5 @@
 -- The answers of the calls, one law for each `return`. Assumes nothing.
+use mathlib.Core.Bool.{Bool, true, false, not}
 use mathlib.Core.List.{List}
 use mathlib.Core.Logic.{⊎_elim}
 use mathlib.Core.Path.{◌≡◌, sym, ◌∙◌}
@@ -10,21 +11,15 @@ use Rattle.folds.proofs.Bools.{clash, tells_by, tells_yes, tells_no}
 use Rattle.sets.specs.Sets.{has}
 use Rattle.sets.specs.Collect.{set_of}
 use Rattle.sets.proofs.Collect.{set_tells, set-high}
-use Rattle.asks.specs.Asks.{table_asks}
-use Rattle.asks.specs.Asked.{Asked}
-use Rattle.asks.proofs.Answers.{accept_no}
-use Rattle.asks.proofs.Asked.{asked-number, asked-all}
-use Rattle.table.specs.Answers.{unlisted}
 use Rattle.table.specs.Table.{output_at, cell_at}
-use Rattle.table.specs.declared.Refusal.{Refusal}
+use Rattle.table.specs.Test.{Tested}
+use Rattle.table.specs.declared.Refusal.TheVariants.{NotWellFormed}
 use Rattle.table.specs.declared.Table.{Table}
-use Rattle.table.specs.declared.Verdict.{Verdict}
-use Rattle.table.proofs.Answers.{number_bounds}
+use Rattle.table.proofs.Formed.{accepted, rejected, few-columns}
 use Rattle.terms.specs.Columns.{lowest}
 use Rattle.terms_laws.proofs.Classes.{alike_tells}
-use Rattle.classes.specs.Classes.{numbers_of, ClassesAre}
-use Rattle.classes.specs.Undetectable.{UndetectableFault, UndetectableIn}
-use Rattle.classes.specs.Undetected.{undetected}
+use Rattle.classes.specs.Classes.{unnumbered, numbers_of, classes_of}
+use Rattle.classes.specs.Undetectable.{undetected, UndetectableFault, UndetectableIn}
 use Rattle.table.specs.declared.Faults.TheVariants as faults
 use Rattle.table.specs.declared.Verdict.TheVariants as verdict
 
@@ -40,18 +35,22 @@ undetected_tells tb f = ⊎_elim
     tells_by _ (λ h. clash _ h e) (λ h k. omega (arith, k.0)))
     (lt_or_ge f tb.faults)
 
-module _ (tb : Table) (v : Verdict) (h : Asked (table_asks tb) v) where
-  module _ (why : Refusal) (e : v ≡ verdict.Refused why) where
-    pub classify-refused : ClassesAre tb (record { verdict = verdict.Refused why; count = 0; of = unlisted })
-    classify-refused = record { number = asked-number _ v h why e; count = sym (accept_no why _ _); of = sym (accept_no why _ _) }
+module _ (tb : Table) (r : Bool) (t : Tested tb r) where
+  pub classify-20 : not r ≡ true → record { verdict = verdict.Refused NotWellFormed; count = 0; of = unnumbered } ≡ classes_of tb
+  unfolding classes_of
+  classify-20 q = rw (rejected tb r t q)
 
-    pub undetectable-refused : UndetectableIn tb (faults.Refused why)
-    undetectable-refused = record { number = asked-number _ v h why e; holds = λ z. absurd (omega (arith, number_bounds why)) }
+  pub undetectable-20 : not r ≡ true → UndetectableIn tb (faults.Refused NotWellFormed)
+  undetectable-20 q = record { number = rw (rejected tb r t q); holds = λ h. clash _ h (rejected tb r t q) }
 
-  module _ (e : v ≡ verdict.Accepted) where
-    pub classify-all : (k : ℕ) (s : List ℕ) → k ≡ count (lowest (cell_at tb.cells) tb.tests) (tb.faults + 1)
-        → s ≡ numbers_of (cell_at tb.cells) tb.tests (tb.faults + 1) → ClassesAre tb (record { verdict = verdict.Accepted; count = k; of = s })
-    classify-all k s f g = record { number = asked-all _ v h e; count = f; of = g }
+  module _ (q : not r ≡ false) where
+    pub few-faults : tb.faults ≤ 60
+    few-faults = omega (arith, few-columns tb r t q)
 
-    pub undetectable-all : (s : ℕ) → s ≡ set_of (undetected (cell_at tb.cells) tb.tests) tb.faults → UndetectableIn tb (faults.Set s)
-    undetectable-all s g = record { number = asked-all _ v h e; holds = λ z f. rw g (undetected_tells tb f) }
+    pub classify-0 : (k : ℕ) (s : List ℕ) → k ≡ count (lowest (cell_at tb.cells) tb.tests) (tb.faults + 1)
+        → s ≡ numbers_of (cell_at tb.cells) tb.tests (tb.faults + 1) → record { verdict = verdict.Accepted; count = k; of = s } ≡ classes_of tb
+    unfolding classes_of
+    classify-0 k s e f = rw (accepted tb r t q, e, f)
+
+    pub undetectable-0 : (s : ℕ) → s ≡ set_of (undetected (cell_at tb.cells) tb.tests) tb.faults → UndetectableIn tb (faults.Set s)
+    undetectable-0 s e = record { number = rw (accepted tb r t q); holds = λ h f. rw e (undetected_tells tb f) }

@@ -3,7 +3,7 @@ ghost use Rattle.std.specs.Prelude.{◌≡◌, ◌≤◌, ◌<◌};
 ghost use Rattle.table.specs.Table.{cell_at};
 ghost use Rattle.classes.specs.Classes.{numbers_of};
 ghost use Rattle.sets.specs.Collect.{set_of};
-ghost use Rattle.classes.specs.Undetected.{undetected};
+ghost use Rattle.classes.specs.Undetectable.{undetected};
 
 // The class number of each column, and zero past the last.
 pub fn numbers(cells: &[u8; 1464], tests: usize, columns: usize) -> [u8; 61]

@@ -1,9 +1,18 @@
 // Which columns are alike, and the lowest of each class, for the crates above.
 ghost use Rattle.std.specs.Prelude.{◌≡◌, ◌≤◌, ◌<◌};
 ghost use Rattle.folds.specs.Fold.{count};
+ghost use Rattle.sets.specs.Sets.{has};
 ghost use Rattle.table.specs.Table.{cell_at};
-ghost use Rattle.terms.specs.Columns.{alike, apart, lowest, lowestOf};
+ghost use Rattle.terms.specs.Columns.{agrees, alike, apart, lowest, lowestOf};
 ghost use Rattle.sets.specs.Collect.{set_of};
+
+// Whether test t gives the columns a and b one output.
+fn agrees(cells: &[u8; 1464], a: usize, b: usize, t: usize) -> bool
+    requires { (a < 61) × (b < 61) × (t < 24) }
+    ensures { result ≡ agrees (cell_at cells.now) a b t }
+{
+    table::inner::cell(cells, t, a) == table::inner::cell(cells, t, b)
+}
 
 // Whether no test separates the columns a and b.
 pub fn alike(cells: &[u8; 1464], tests: usize, a: usize, b: usize) -> bool
@@ -12,7 +21,7 @@ pub fn alike(cells: &[u8; 1464], tests: usize, a: usize, b: usize) -> bool
 {
     let mut i = 0;
     while i < tests {
-        if !table::inner::agrees(cells, a, b, i) {
+        if !agrees(cells, a, b, i) {
             return false;
         }
         i += 1;
@@ -88,4 +97,12 @@ pub fn lowest_set(cells: &[u8; 1464], tests: usize, columns: usize) -> u64
         i += 1;
     }
     set
+}
+
+// Whether the set holds i.
+pub fn holds(set: u64, i: usize) -> bool
+    requires { i < 64 }
+    ensures { result ≡ has set i }
+{
+    (set >> i) % 2 == 1
 }

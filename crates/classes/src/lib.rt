@@ -1,19 +1,20 @@
 // Classes of columns that no test separates, and the undetectable faults.
-ghost use Rattle.classes.specs.Classes.{ClassesAre};
+ghost use Rattle.std.specs.Prelude.{◌≡◌};
+ghost use Rattle.classes.specs.Classes.{classes_of};
 ghost use Rattle.classes.specs.Undetectable.{UndetectableIn};
 
-use table::{Classes, Faults, Table, Verdict};
+use table::{Classes, Faults, Refusal, Table, Verdict};
 
 mod columns;
 pub mod inner;
 
 // The class number of each column.
 pub fn classify(table: Table) -> Classes
-    ensures { ClassesAre table result }
+    ensures { result ≡ classes_of table }
 {
-    if let Verdict::Refused(why) = asks::inner::table_verdict(table) {
+    if !table::well_formed(table) {
         return Classes {
-            verdict: Verdict::Refused(why),
+            verdict: Verdict::Refused(Refusal::NotWellFormed),
             count: 0,
             of: [0; 61],
         };
@@ -32,8 +33,8 @@ pub fn classify(table: Table) -> Classes
 pub fn undetectable(table: Table) -> Faults
     ensures { UndetectableIn table result }
 {
-    if let Verdict::Refused(why) = asks::inner::table_verdict(table) {
-        return Faults::Refused(why);
+    if !table::well_formed(table) {
+        return Faults::Refused(Refusal::NotWellFormed);
     }
     Faults::Set(columns::undetected_set(&table.cells, table.tests, table.faults))
 }

@@ -23,8 +23,8 @@ use Rattle.table.specs.declared.Goal.TheVariants.{Detect}
 use Rattle.table.specs.declared.Table.{Table}
 use Rattle.terms.specs.Terms.{TestOf, GoalPair, Counts, Covers, Aside, Kept, Essential}
 use Rattle.cover.specs.Masks.{masks_of}
-use Rattle.cover.specs.Kept.{has_at, followsAt, follows, is_at, mask_is, used, covers, outdone, kept, lone, kept_set, lone_set}
-use Rattle.cover.specs.Gives.{Exactly, AsideTest}
+use Rattle.cover.specs.Kept.{has_at, followsAt, follows, is_at, mask_is, used, covers, outdone, kept, lone}
+use Rattle.cover.specs.Answer.{kept_set, lone_set, Exactly, AsideTest}
 use Rattle.cover.proofs.Kept.{outdone-by, outdone-at}
 use Rattle.cover.proofs.Goals.{pairMask, mask_lt, mask-separates, mask-in, masks-all, masks-at}
 

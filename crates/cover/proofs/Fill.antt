@@ -11,12 +11,12 @@ use Rattle.folds.proofs.Gather.{always_true}
 use Rattle.folds.proofs.Onto.{onto_length, onto_front, onto_room, onto_behind}
 use Rattle.folds.proofs.Joined.{joined-none, joined-yes}
 use Rattle.sets.specs.Collect.{set_of}
-use Rattle.table.specs.Table.{output_at, columns}
 use Rattle.table.specs.declared.Goal.{Goal}
 use Rattle.table.specs.declared.Goal.TheVariants.{Detect}
 use Rattle.table.specs.declared.Table.{Table}
 use Rattle.cover.specs.declared.inner.Masks.{Masks}
-use Rattle.cover.specs.Kept.{kept_set, lone_set, kept, lone}
+use Rattle.cover.specs.Answer.{kept_set, lone_set}
+use Rattle.cover.specs.Kept.{kept, lone}
 use Rattle.cover.specs.Masks.{maskRow, masks_of}
 use Rattle.cover.specs.Filled.{no_masks, Filled}
 use Rattle.cover.proofs.Masks.{row-few}
@@ -83,12 +83,6 @@ module _ (tb : Table) (goal : Goal) (r : Masks) (f : Filled tb goal r) where
 
   pub filled-fits : r.count ≤ length r.list
   filled-fits = rw (f.list, f.count) (onto_room (masks_of tb goal) no_masks)
-
-  pub filled-few : tb.faults ≤ 60 → r.count ≤ 1830
-  unfolding masks_of rows_to
-  filled-few h =
-      let n = columns tb in
-      omega (arith, f.count, rows_few (output_at tb) tb.tests goal n (omega arith) n, total_grows most n 61 (omega arith), all_most)
 
   pub filled-part : r.count ≡ length (take r.count r.list)
   filled-part = f.count ∙ ap length (sym filled-take)

@@ -9,16 +9,16 @@ use Rattle.folds.specs.Fold.{always}
 use Rattle.folds.proofs.Bools.{clash, both_true, both_left, both_right}
 use Rattle.folds.proofs.All.{AllOf, joined-all, joined_at, gather-all, gather-at}
 use Rattle.folds.proofs.Gather.{always_true}
-use Rattle.sets.specs.Sets.{bit}
-use Rattle.sets.specs.Inner.{Shares}
+use Rattle.sets.specs.Sets.{bit, Shares}
 use Rattle.sets.proofs.Bits.{bit_zero, some_bit}
 use Rattle.sets.proofs.Collect.{set-lt, set_below, set-has, set-in}
-use Rattle.table.specs.Table.{output_at, columns, agrees, separates}
+use Rattle.table.specs.Table.{output_at, columns}
 use Rattle.table.specs.declared.Goal.{Goal}
 use Rattle.table.specs.declared.Goal.TheVariants.{Detect, Diagnose}
 use Rattle.table.specs.declared.Table.{Table}
+use Rattle.terms.specs.Columns.{agrees}
 use Rattle.terms.specs.Terms.{TestOf, Separates, GoalPair, Counts, Reaches}
-use Rattle.cover.specs.Masks.{Hits, goal_pair, mask_of, goalMask, counts, maskRow, masks_of}
+use Rattle.cover.specs.Masks.{Hits, goal_pair, differs, mask_of, goalMask, counts, maskRow, masks_of}
 
 -- ---- the mask of a pair
 
@@ -29,19 +29,19 @@ module _ (tb : Table) (a b : ℕ) where
 
   pub mask_lt : pairMask < 2 ^ tb.tests
   unfolding mask_of
-  mask_lt = set-lt (separates (output_at tb) a b) tb.tests
+  mask_lt = set-lt (differs (output_at tb) a b) tb.tests
 
   pub mask-test : (t : ℕ) → bit pairMask t ≡ 1 → TestOf tb t
   unfolding mask_of
-  mask-test t e = set_below (separates (output_at tb) a b) tb.tests t e
+  mask-test t e = set_below (differs (output_at tb) a b) tb.tests t e
 
   pub mask-separates : (t : ℕ) → bit pairMask t ≡ 1 → Separates tb t a b
-  unfolding mask_of separates agrees
-  mask-separates t e q = clash false (sym (rw (eq-eqb (output_at tb t a) (output_at tb t b) q)) ∙ set-has (separates (output_at tb) a b) tb.tests t e) refl
+  unfolding mask_of differs agrees
+  mask-separates t e q = clash false (sym (rw (eq-eqb (output_at tb t a) (output_at tb t b) q)) ∙ set-has (differs (output_at tb) a b) tb.tests t e) refl
 
   pub mask-in : (t : ℕ) → TestOf tb t → Separates tb t a b → bit pairMask t ≡ 1
-  unfolding mask_of separates agrees
-  mask-in t l ne = set-in (separates (output_at tb) a b) tb.tests t l (rw (ne_eqb (output_at tb t a) (output_at tb t b) ne))
+  unfolding mask_of differs agrees
+  mask-in t l ne = set-in (differs (output_at tb) a b) tb.tests t l (rw (ne_eqb (output_at tb t a) (output_at tb t b) ne))
 
   counts-mask : Counts tb a b → pairMask ≡ 0 → ⊥
   counts-mask (t, l, ne) z = omega (arith, mask-in t l ne, ap (λ (x : ℕ). bit x t) z, bit_zero t)

@@ -4,5 +4,4 @@ pub mod Goals
 pub mod Kept
 pub mod Shared
 pub mod Aside
-pub mod Calls
 pub mod Pins

@@ -1,20 +1,16 @@
 -- The promises of `set_aside` and `essential` leave one result. Assumes nothing.
-use mathlib.Core.Path.{◌≡◌, refl, sym, ap, ◌∙◌}
+use mathlib.Core.Path.{◌≡◌, sym, ap, ◌∙◌}
 use mathlib.Core.Logic.{⊎_elim}
 use Prim.Native.Nat.{ℕ, ◌^◌, ◌<◌}
-use native.Mathlib.Omega.{arith}
 use Rattle.sets.specs.Sets.{bit}
 use Rattle.sets.proofs.Bits.{bit_cases, bits_equal, below_of_bits}
-use Rattle.table.specs.Answers.{chosen_number, chosen_set}
 use Rattle.table.specs.declared.Chosen.{Chosen}
 use Rattle.table.specs.declared.Chosen.TheVariants.{Tests, Refused}
 use Rattle.table.specs.declared.Goal.{Goal}
 use Rattle.table.specs.declared.Table.{Table}
-use Rattle.asks.specs.Asks.{goal_asks}
-use Rattle.asks.proofs.Numbered.{numbered_one}
-use Rattle.table.proofs.Answers.{number_bounds, number_one}
+use Rattle.table.proofs.Answers.{number_one}
 use Rattle.terms.specs.Terms.{TestOf, Essential}
-use Rattle.cover.specs.Gives.{Exactly, Gives, AsideTest}
+use Rattle.cover.specs.Answer.{Exactly, Gives, AsideTest}
 
 module _ (tb : Table) (P : ℕ → Type 0) (test : (t : ℕ) → P t → TestOf tb t) where
   exactly-one : (s₁ s₂ : ℕ) → Exactly P s₁ → Exactly P s₂ → s₁ ≡ s₂
@@ -29,17 +25,14 @@ module _ (tb : Table) (P : ℕ → Type 0) (test : (t : ℕ) → P t → TestOf 
           (λ p. ⊎_elim (λ q. absurd (b.outside t q (a.inside t p))) (λ q. p ∙ sym q) (bit_cases s₂ t))
           (bit_cases s₁ t)
 
-  gives_one : (goal : Goal) (r₁ r₂ : Chosen) → Gives tb goal P r₁ → Gives tb goal P r₂ → r₁ ≡ r₂
-  gives_one goal r₁ r₂ a b = go r₁ r₂ a.holds b.holds (numbered_one (goal_asks tb goal) _ _ a.number b.number)
-    where
-      go : (r₁ r₂ : Chosen) → (chosen_number r₁ ≡ 0 → Exactly P (chosen_set r₁)) → (chosen_number r₂ ≡ 0 → Exactly P (chosen_set r₂)) → chosen_number r₁ ≡ chosen_number r₂ → r₁ ≡ r₂
-      go (Tests s₁) (Tests s₂) f g e = ap Tests (exactly-one s₁ s₂ (f refl) (g refl))
-      go (Tests s₁) (Refused why₂) f g e = absurd (omega (arith, number_bounds why₂))
-      go (Refused why₁) (Tests s₂) f g e = absurd (omega (arith, number_bounds why₁))
-      go (Refused why₁) (Refused why₂) f g e = ap Refused (number_one why₁ why₂ e)
+  gives_one : (r₁ r₂ : Chosen) → Gives tb P r₁ → Gives tb P r₂ → r₁ ≡ r₂
+  gives_one (Tests s₁) (Tests s₂) a b = ap Tests (exactly-one s₁ s₂ a.1 b.1)
+  gives_one (Tests s₁) (Refused why₂) a b = absurd (b.0 a.0)
+  gives_one (Refused why₁) (Tests s₂) a b = absurd (a.0 b.0)
+  gives_one (Refused why₁) (Refused why₂) a b = ap Refused (number_one why₁ why₂ (a.1 ∙ sym b.1))
 
-pub set_aside_pins : (tb : Table) (goal : Goal) (r₁ r₂ : Chosen) → Gives tb goal (AsideTest tb goal) r₁ → Gives tb goal (AsideTest tb goal) r₂ → r₁ ≡ r₂
-set_aside_pins tb goal r₁ r₂ a b = gives_one tb (AsideTest tb goal) (λ t w. w.0) goal r₁ r₂ a b
+pub set_aside_pins : (tb : Table) (goal : Goal) (r₁ r₂ : Chosen) → Gives tb (AsideTest tb goal) r₁ → Gives tb (AsideTest tb goal) r₂ → r₁ ≡ r₂
+set_aside_pins tb goal r₁ r₂ a b = gives_one tb (AsideTest tb goal) (λ t w. w.0) r₁ r₂ a b
 
-pub essential_pins : (tb : Table) (goal : Goal) (r₁ r₂ : Chosen) → Gives tb goal (Essential tb goal) r₁ → Gives tb goal (Essential tb goal) r₂ → r₁ ≡ r₂
-essential_pins tb goal r₁ r₂ a b = gives_one tb (Essential tb goal) (λ t w. w.0.0) goal r₁ r₂ a b
+pub essential_pins : (tb : Table) (goal : Goal) (r₁ r₂ : Chosen) → Gives tb (Essential tb goal) r₁ → Gives tb (Essential tb goal) r₂ → r₁ ≡ r₂
+essential_pins tb goal r₁ r₂ a b = gives_one tb (Essential tb goal) (λ t w. w.0.0) r₁ r₂ a b

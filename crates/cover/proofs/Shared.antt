@@ -16,7 +16,7 @@ use Rattle.folds.specs.Fold.{both, every}
 use Rattle.folds.proofs.Below.{eq_or_ne}
 use Rattle.folds.proofs.Bools.{both_yes}
 use Rattle.sets.specs.Sets.{bit, has}
-use Rattle.sets.specs.Collect.{set_of, set_with}
+use Rattle.sets.specs.Collect.{set_of, with_test}
 use Rattle.sets.proofs.Bits.{bit_low, bit_zero, bit_below, some_bit}
 use Rattle.sets.proofs.Collect.{one_shl, set_is, set-lt, set_tells, set-has, set-in}
 use Rattle.sets.proofs.Shared.{has_and}
@@ -31,7 +31,7 @@ module _ (masks : List ℕ) (t : ℕ) where
   sharedTo i = set_of (λ u. every (followsAt masks u t) i) 24
 
   pub shared_start : 16777215 ≡ sharedTo 0
-  unfolding sharedTo set_of set_with every
+  unfolding sharedTo set_of with_test every
   shared_start = refl
 
   module _ (i s s' : ℕ) (r : Bool) (e : s ≡ sharedTo i) (h : r ≡ has (get_or masks i 0) t) where

@@ -2,14 +2,8 @@
 -- Assumes nothing.
 use Rattle.std.specs.Prelude.{Bool, not, List, ℕ, ◌^◌, eqb, ltb, length, get_or}
 use Rattle.std.specs.Int.Bits.{bit_and}
-use Rattle.folds.specs.Fold.{both, either, every}
-use Rattle.folds.specs.Some.{some}
+use Rattle.folds.specs.Fold.{both, either, every, some}
 use Rattle.sets.specs.Sets.{has}
-use Rattle.sets.specs.Collect.{set_of}
-use Rattle.table.specs.declared.Goal.{Goal}
-use Rattle.table.specs.declared.Goal.TheVariants.{Detect}
-use Rattle.table.specs.declared.Table.{Table}
-use Rattle.cover.specs.Masks.{masks_of}
 
 -- the mask has test u where it has test t
 unfoldable pub follows : ℕ → ℕ → ℕ → Bool
@@ -52,11 +46,3 @@ module _ (masks : List ℕ) where
   -- test t is some mask's only kept test
   unfoldable pub lone : ℕ → ℕ → Bool
   lone kept_set t = some (is_at kept_set t) (length masks)
-
--- the tests that are kept for a goal
-unfoldable pub kept_set : Table → Goal → ℕ
-kept_set tb goal = set_of (kept (masks_of tb goal) tb.tests) tb.tests
-
--- the tests that alone, of those in `keep`, separate some fault from column 0
-unfoldable pub lone_set : Table → ℕ → ℕ
-lone_set tb keep = set_of (lone (masks_of tb Detect) keep) tb.tests

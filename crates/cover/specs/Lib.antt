@@ -1,4 +1,4 @@
 pub mod Masks
 pub mod Filled
 pub mod Kept
-pub mod Gives
+pub mod Answer

@@ -1,13 +1,14 @@
 -- The masks of pairs of columns. `out t c` is the output of test t in column c. The sentences are document 01's.
 -- Assumes nothing.
 use Rattle.std.specs.Prelude.{Bool, not, List, ℕ, ◌<◌, eqb, ltb, length, get_or}
-use Rattle.folds.specs.Fold.{whether, both, joined, gather, always}
-use Rattle.sets.specs.Inner.{Shares}
+use Rattle.folds.specs.Fold.{pick, both, joined, gather, always}
+use Rattle.sets.specs.Sets.{Shares}
 use Rattle.sets.specs.Collect.{set_of}
-use Rattle.table.specs.Table.{output_at, columns, separates}
+use Rattle.table.specs.Table.{output_at, columns}
 use Rattle.table.specs.declared.Goal.{Goal}
 use Rattle.table.specs.declared.Goal.TheVariants.{Detect, Diagnose}
 use Rattle.table.specs.declared.Table.{Table}
+use Rattle.terms.specs.Columns.{agrees}
 
 -- s shares a test with every mask
 abbrev pub Hits : List ℕ → ℕ → Type 0
@@ -19,15 +20,19 @@ goal_pair Detect a b = both (ltb a b) (eqb a 0)
 goal_pair Diagnose a b = ltb a b
 
 module _ (out : ℕ → ℕ → ℕ) where
+  -- "A test separates two columns when their outputs differ."
+  unfoldable pub differs : ℕ → ℕ → ℕ → Bool
+  differs a b t = not (agrees out a b t)
+
   module _ (tests : ℕ) where
     -- the tests that separate the columns a and b
     unfoldable pub mask_of : ℕ → ℕ → ℕ
-    mask_of a b = set_of (separates out a b) tests
+    mask_of a b = set_of (differs a b) tests
 
     module _ (goal : Goal) where
       -- the same for a goal pair; none for any other pair
       unfoldable pub goalMask : ℕ → ℕ → ℕ
-      goalMask a b = whether (goal_pair goal a b) (mask_of a b) 0
+      goalMask a b = pick (goal_pair goal a b) (mask_of a b) 0
 
       -- "Only those count which some test of the table separates."
       unfoldable pub counts : ℕ → ℕ → Bool

@@ -1,6 +1,6 @@
 // The masks of a goal, and the tests weighed by them, for the crates above.
 ghost use Rattle.std.specs.Prelude.{◌≡◌, ◌^◌, ◌≤◌, ◌<◌};
-ghost use Rattle.sets.specs.Collect.{set_with, set_of};
+ghost use Rattle.sets.specs.Collect.{with_test, set_of};
 ghost use Rattle.cover.specs.Filled.{Filled};
 ghost use Rattle.cover.specs.Kept.{kept};
 
@@ -14,9 +14,9 @@ pub struct Masks {
 }
 
 // The set with test t, where it is to be in.
-pub fn set_with(set: u32, t: usize, inside: bool) -> u32
+pub fn with_test(set: u32, t: usize, inside: bool) -> u32
     requires { (t < 24) × (set < 2 ^ t) }
-    ensures { result ≡ set_with set t inside }
+    ensures { result ≡ with_test set t inside }
 {
     if inside { set + (1 << t) } else { set }
 }
@@ -48,7 +48,7 @@ pub fn kept_tests(masks: &[u32], tests: usize) -> u32
     let mut set: u32 = 0;
     let mut i: usize = 0;
     while i < tests {
-        set = set_with(set, i, crate::weigh::is_kept(masks, tests, i));
+        set = with_test(set, i, crate::weigh::is_kept(masks, tests, i));
         i += 1;
     }
     set

@@ -1,10 +1,9 @@
 // Which tests separate the pairs of a goal; the tests that a goal sets aside, and the essential ones.
 ghost use Rattle.std.specs.Prelude.{◌≡◌, ◌≤◌};
-ghost use Rattle.cover.specs.Gives.{Gives, AsideTest};
-ghost use Rattle.cover.specs.Kept.{kept_set, lone_set};
+ghost use Rattle.cover.specs.Answer.{kept_set, lone_set, Gives, AsideTest};
 ghost use Rattle.terms.specs.Terms.{Essential};
 
-use table::{Chosen, Goal, Table, Verdict};
+use table::{Chosen, Goal, Refusal, Table};
 
 pub mod inner;
 mod pairs;
@@ -34,20 +33,20 @@ fn lone_for(table: Table, kept: u32) -> u32
 
 // The tests that are set aside for the goal.
 pub fn set_aside(table: Table, goal: Goal) -> Chosen
-    ensures { Gives table goal (AsideTest table goal) result }
+    ensures { Gives table (AsideTest table goal) result }
 {
-    if let Verdict::Refused(why) = asks::inner::goal_verdict(table, goal) {
-        return Chosen::Refused(why);
+    if !table::well_formed(table) {
+        return Chosen::Refused(Refusal::NotWellFormed);
     }
     Chosen::Tests((1 << table.tests) - 1 - kept_for(table, goal))
 }
 
 // The essential tests for the goal.
 pub fn essential(table: Table, goal: Goal) -> Chosen
-    ensures { Gives table goal (Essential table goal) result }
+    ensures { Gives table (Essential table goal) result }
 {
-    if let Verdict::Refused(why) = asks::inner::goal_verdict(table, goal) {
-        return Chosen::Refused(why);
+    if !table::well_formed(table) {
+        return Chosen::Refused(Refusal::NotWellFormed);
     }
     Chosen::Tests(lone_for(table, kept_for(table, goal)))
 }

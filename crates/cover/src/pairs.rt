@@ -2,9 +2,17 @@
 ghost use Rattle.std.specs.Prelude.{◌≡◌, ◌+◌, ◌≤◌, ◌<◌, length};
 ghost use Rattle.folds.specs.Fold.{onto};
 ghost use Rattle.table.specs.Table.{cell_at};
-ghost use Rattle.cover.specs.Masks.{mask_of, goal_pair, goalMask, maskRow};
+ghost use Rattle.cover.specs.Masks.{differs, mask_of, goal_pair, goalMask, maskRow};
 
 use table::Goal;
+
+// Whether test t separates the columns a and b.
+fn differs(cells: &[u8; 1464], a: usize, b: usize, t: usize) -> bool
+    requires { (t < 24) × (a < 61) × (b < 61) }
+    ensures { result ≡ differs (cell_at cells.now) a b t }
+{
+    table::inner::cell(cells, t, a) != table::inner::cell(cells, t, b)
+}
 
 // The tests that separate the columns a and b.
 fn mask_of(cells: &[u8; 1464], tests: usize, a: usize, b: usize) -> u32
@@ -14,7 +22,7 @@ fn mask_of(cells: &[u8; 1464], tests: usize, a: usize, b: usize) -> u32
     let mut mask: u32 = 0;
     let mut i: usize = 0;
     while i < tests {
-        mask = crate::inner::set_with(mask, i, !table::inner::agrees(cells, a, b, i));
+        mask = crate::inner::with_test(mask, i, differs(cells, a, b, i));
         i += 1;
     }
     mask

@@ -93,7 +93,7 @@ pub fn lone_tests(masks: &[u32], kept: u32, tests: usize) -> u32
     let mut set: u32 = 0;
     let mut i: usize = 0;
     while i < tests {
-        set = crate::inner::set_with(set, i, lone(masks, kept, i));
+        set = crate::inner::with_test(set, i, lone(masks, kept, i));
         i += 1;
     }
     set

@@ -1,4 +1,5 @@
 -- What the dictionary holds: k rows of n bytes, and the row of each column's class is the column's own signature. Assumes nothing.
+use mathlib.Core.Bool.{true}
 use mathlib.Core.List.{List}
 use mathlib.Core.Path.{◌≡◌, refl, sym, ap, ◌∙◌}
 use Prim.Native.Nat.{ℕ, suc, ◌+◌, ◌*◌, ◌≤◌, ◌<◌}
@@ -6,60 +7,55 @@ use native.Mathlib.Nat.{add-mul, one-mul, mul-le-mul, le_refl}
 use native.Mathlib.Numerals.{add-one}
 use native.Mathlib.Omega.{arith}
 use lib.ListN.{length, take, drop}
-use Rattle.folds.proofs.Count.{count_le}
+use Rattle.folds.specs.Fold.{count}
 use Rattle.folds.proofs.Joined.{joined-rows, joined-part}
-use Rattle.asks.specs.Asks.{set_asks}
-use Rattle.lent.specs.Lent.{WritesOnto}
+use Rattle.lent.specs.Lent.{set_number, WritesOnto}
 use Rattle.lent.proofs.Lent.{writes-part}
-use Rattle.sets.specs.Sets.{has, size}
+use Rattle.sets.specs.Sets.{has, within, size}
+use Rattle.sets.proofs.Bits.{within_yes}
+use Rattle.sets.proofs.Weight.{size_counts}
 use Rattle.table.specs.Table.{output_at, columns}
-use Rattle.table.specs.WellFormed.{WellFormed}
 use Rattle.table.specs.declared.Table.{Table}
 use Rattle.table.specs.declared.Written.TheVariants.{Bytes}
 use Rattle.terms.specs.Columns.{lowest, lowestOf, classNumber, outputsUnder}
 use Rattle.terms.specs.Terms.{signature, class_of, class_count}
-use Rattle.terms_laws.proofs.Classes.{alike-sym, alike-signature, lowest-le, lowest-alike, lowest-of, class-lowest, class-below, few_classes}
+use Rattle.terms_laws.proofs.Classes.{alike-sym, alike-signature, lowest-le, lowest-alike, lowest-of, class-lowest, class-below}
 use Rattle.dictionary.specs.Dictionary.{rows_under, dictionary_of}
 use Rattle.dictionary.proofs.Rows.{row-length, rows-size}
 
 -- the length is the number of classes times the set's size
-pub dictionary_length : (tb : Table) (s : ℕ) → length (dictionary_of tb s) ≡ class_count tb * size s tb.tests
-dictionary_length tb s = sym (rows-size (output_at tb) tb.tests s (class_count tb) (size s tb.tests) (columns tb) refl refl)
-
--- which no set of a well-formed table's makes more than 61 times 24
-pub dictionary_most : (tb : Table) → WellFormed tb → (s : ℕ) → length (dictionary_of tb s) ≤ 1464
-dictionary_most tb w s =
-    let few : size s tb.tests ≤ 24 = omega (arith, w.tests_fit, count_le (has s) tb.tests) in
-    omega (arith, dictionary_length tb s, mul-le-mul (few_classes tb w) few)
+pub dictionary_length : (tb : Table) (s : ℕ) → tb.tests ≤ 24 → within s tb.tests ≡ true → length (dictionary_of tb s) ≡ class_count tb * size s
+dictionary_length tb s l w = sym (rows-size (output_at tb) tb.tests s (class_count tb) (size s) (columns tb) refl (size_counts tb.tests s l (within_yes s tb.tests w)))
 
 -- the row of a class starts behind the rows of the lower ones, and is the signature of each of its columns
 module _ (out : ℕ → ℕ → ℕ) (tests s n : ℕ) where
-  row-start : (c : ℕ) → length (rows_under out tests s (lowestOf out tests c)) ≡ classNumber out tests c * size s tests
+  row-start : (c : ℕ) → length (rows_under out tests s (lowestOf out tests c)) ≡ classNumber out tests c * count (has s) tests
   row-start c =
-      joined-rows (lowest out tests) (outputsUnder out tests s) (size s tests) (lowestOf out tests c) (row-length out tests s)
-      ∙ ap (λ (m : ℕ). m * size s tests) (sym (class-lowest out tests c))
+      joined-rows (lowest out tests) (outputsUnder out tests s) (count (has s) tests) (lowestOf out tests c) (row-length out tests s)
+      ∙ ap (λ (m : ℕ). m * count (has s) tests) (sym (class-lowest out tests c))
 
-  pub class-row : (c : ℕ) → c < n → take (size s tests) (drop (classNumber out tests c * size s tests) (rows_under out tests s n)) ≡ outputsUnder out tests s c
+  pub class-row : (c : ℕ) → c < n → take (count (has s) tests) (drop (classNumber out tests c * count (has s) tests) (rows_under out tests s n)) ≡ outputsUnder out tests s c
   class-row c w =
       let low : ℕ = lowestOf out tests c in
-      ap (λ (m : ℕ). take (size s tests) (drop m (rows_under out tests s n))) (sym (row-start c))
+      ap (λ (m : ℕ). take (count (has s) tests) (drop m (rows_under out tests s n))) (sym (row-start c))
       ∙ ap (λ (m : ℕ). take m (drop (length (rows_under out tests s low)) (rows_under out tests s n))) (sym (row-length out tests s low))
       ∙ joined-part (lowest out tests) (outputsUnder out tests s) n low (omega (arith, lowest-le out tests c)) (lowest-of out tests c)
       ∙ alike-signature out tests s low c (alike-sym out tests c low (lowest-alike out tests c))
 
 -- row `class_of tb c` of the dictionary is the signature of column c
 pub dictionary_row : (tb : Table) (s c : ℕ) → c < columns tb
-    → take (size s tb.tests) (drop (class_of tb c * size s tb.tests) (dictionary_of tb s)) ≡ signature tb s c
+    → take (count (has s) tb.tests) (drop (class_of tb c * count (has s) tb.tests) (dictionary_of tb s)) ≡ signature tb s c
 dictionary_row tb s c w = class-row (output_at tb) tb.tests s (columns tb) c w
 
 one_more : (r n : ℕ) → suc r * n ≡ r * n + n
 one_more r n = ap (λ (x : ℕ). x * n) (sym (add-one r)) ∙ add-mul r 1 n ∙ rw one-mul
 
 -- and so it stands in the buffer that an accepted call leaves
-pub written_row : (tb : Table) (s n : ℕ) (d e : List ℕ) → WritesOnto (set_asks tb s) (dictionary_of tb s) d (Bytes n) e → (c : ℕ) → c < columns tb
-    → take (size s tb.tests) (drop (class_of tb c * size s tb.tests) e) ≡ signature tb s c
+pub written_row : (tb : Table) (s n : ℕ) (d e : List ℕ) → WritesOnto (set_number tb s) (dictionary_of tb s) d (Bytes n) e → (c : ℕ) → c < columns tb
+    → take (count (has s) tb.tests) (drop (class_of tb c * count (has s) tb.tests) e) ≡ signature tb s c
 written_row tb s n d e a c w =
-    let m : ℕ = size s tb.tests in
-    let fits : class_of tb c * m + m ≤ length (dictionary_of tb s) =
-    rw (dictionary_length tb s, ← one_more (class_of tb c) m) (mul-le-mul (class-below (output_at tb) tb.tests (columns tb) c w) (le_refl m)) in
-    writes-part (set_asks tb s) (dictionary_of tb s) d n e a (class_of tb c * m) m fits ∙ dictionary_row tb s c w
+    let size : ℕ = count (has s) tb.tests in
+    let fits : class_of tb c * size + size ≤ length (dictionary_of tb s) =
+    rw (← rows-size (output_at tb) tb.tests s (class_count tb) size (columns tb) refl refl, ← one_more (class_of tb c) size)
+    (mul-le-mul (class-below (output_at tb) tb.tests (columns tb) c w) (le_refl size)) in
+    writes-part (set_number tb s) (dictionary_of tb s) d n e a (class_of tb c * size) size fits ∙ dictionary_row tb s c w

@@ -1,18 +1,17 @@
 // The dictionary: the signature of each class under a set of tests, written to a lent buffer.
 ghost use Rattle.std.specs.Prelude.{◌≡◌, ◌≤◌, ◌<◌, length};
-ghost use Rattle.folds.specs.Fold.{onto};
-ghost use Rattle.asks.specs.Asks.{set_asks};
-ghost use Rattle.lent.specs.Lent.{WritesOnto};
-ghost use Rattle.sets.specs.Sets.{size};
+ghost use Rattle.folds.specs.Fold.{count, onto};
+ghost use Rattle.lent.specs.Lent.{set_number, WritesOnto};
+ghost use Rattle.sets.specs.Sets.{has};
 ghost use Rattle.table.specs.Table.{cell_at};
 ghost use Rattle.terms.specs.Columns.{outputsUnder};
 ghost use Rattle.dictionary.specs.Dictionary.{rows_under, dictionary_of};
 
-use table::{Refusal, Table, Verdict, Written};
+use table::{Refusal, Table, Written};
 
 // Writes the signature of column c to a row of its length.
 fn write_row(cells: &[u8; 1464], tests: usize, set: u32, c: usize, row: &mut [u8])
-    requires { (tests ≤ 24) × (c < 61) × (length row.old ≡ size set tests) }
+    requires { (tests ≤ 24) × (c < 61) × (length row.old ≡ count (has set) tests) }
     ensures { row.new ≡ outputsUnder (cell_at cells.now) tests set c }
 {
     let mut j = 0;
@@ -28,7 +27,7 @@ fn write_row(cells: &[u8; 1464], tests: usize, set: u32, c: usize, row: &mut [u8
 
 // Writes the row of each class to its own part of the buffer; n is how many tests the set has.
 fn write_rows(cells: &[u8; 1464], tests: usize, set: u32, columns: usize, n: usize, buf: &mut [u8])
-    requires { (tests ≤ 24) × (columns ≤ 61) × (n ≡ size set tests) × (length (rows_under (cell_at cells.now) tests set columns) ≤ length buf.old) }
+    requires { (tests ≤ 24) × (columns ≤ 61) × (n ≡ count (has set) tests) × (length (rows_under (cell_at cells.now) tests set columns) ≤ length buf.old) }
     ensures { buf.new ≡ onto (rows_under (cell_at cells.now) tests set columns) buf.old }
 {
     let mut at = 0;
@@ -45,14 +44,17 @@ fn write_rows(cells: &[u8; 1464], tests: usize, set: u32, columns: usize, n: usi
 
 // Writes the dictionary of a table under a set of tests.
 pub fn dictionary(table: Table, set: u32, buf: &mut [u8]) -> Written
-    ensures { WritesOnto (set_asks table set) (dictionary_of table set) buf.old result buf.new }
+    ensures { WritesOnto (set_number table set) (dictionary_of table set) buf.old result buf.new }
 {
-    if let Verdict::Refused(why) = asks::inner::set_verdict(table, set) {
-        return Written::Refused(why);
+    if !table::well_formed(table) {
+        return Written::Refused(Refusal::NotWellFormed);
     }
     let tests = table.tests;
+    if !sets::inner::within(set, tests) {
+        return Written::Refused(Refusal::UnknownTest);
+    }
     let columns = table.faults + 1;
-    let n = sets::inner::size(set as u64, tests);
+    let n = sets::inner::size(set, tests);
     let bytes = classes::inner::class_count(&table.cells, tests, columns) * n;
     if buf.len() < bytes {
         return Written::Refused(Refusal::BufferShort);

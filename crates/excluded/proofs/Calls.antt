@@ -1,48 +1,35 @@
--- Versions that the promises of the calls on a table exclude, each by what it answers on a small book's table and a set of its tests,
+-- Versions that the promises of the calls on a table exclude, each by what it answers on a small table and a set of its tests,
 -- given as the sum of 2 ^ t over its tests t. The sentences are document 01's.
 -- Assumes nothing.
+use mathlib.Core.Bool.{true}
 use mathlib.Core.List.{List, [], ◌∷◌}
-use mathlib.Core.Logic.{inr}
-use mathlib.Core.Path.{◌≡◌, refl, sym, ◌∙◌}
+use mathlib.Core.Path.{◌≡◌, refl}
 use Prim.Native.Nat.{ℕ, ◌≤◌}
-use native.Mathlib.Omega.{arith}
 use lib.ListN.{length, take}
-use Rattle.folds.specs.Fold.{count, first, joined, single}
-use Rattle.sets.specs.Sets.{bit, has, Within}
-use Rattle.sets.specs.Inner.{within}
-use Rattle.sets.proofs.Bits.{within_tells}
-use Rattle.table.specs.Answers.{number_of, verdict_number, written_count}
-use Rattle.table.specs.Table.{agrees, separates}
-use Rattle.table.specs.WellFormed.{WellFormed}
+use Rattle.folds.specs.Fold.{count, every, first, joined, single}
+use Rattle.sets.specs.Sets.{bit, has, within}
+use Rattle.table.specs.Answers.{written_count}
+use Rattle.table.specs.Table.{cell_at, empty_table, place_of}
+use Rattle.table.specs.Test.{well_formed}
 use Rattle.table.specs.declared.Classes.{Classes}
 use Rattle.table.specs.declared.Refusal.{Refusal}
 use Rattle.table.specs.declared.Suspects.{Suspects}
-use Rattle.table.specs.declared.Table.{Table}
+use Rattle.table.specs.declared.Verdict.TheVariants.{Accepted, Refused}
 use Rattle.table.specs.declared.Written.{Written}
-use Rattle.table.proofs.Answers.{number_bounds}
-use Rattle.terms.specs.Columns.{alike, apart, lowest, outputOf}
-use Rattle.terms.specs.Terms.{TestOf, class_count}
-use Rattle.asks.specs.Asks.{Numbered, set_asks}
-use Rattle.asks.proofs.Asked.{formed_accepted}
-use Rattle.classes.specs.Classes.{ClassesAre}
+use Rattle.table.proofs.Formed.{tested}
+use Rattle.terms.specs.Columns.{agrees, alike, apart, lowest, outputOf}
+use Rattle.classes.specs.Classes.{classes_of}
 use Rattle.classes.proofs.Meaning.{count-given}
-use Rattle.lent.specs.Lent.{WritesOnto}
+use Rattle.lent.specs.Lent.{set_number, WritesOnto}
 use Rattle.dictionary.specs.Dictionary.{dictionary_of}
-use Rattle.witness.specs.Witness.{above, separatesIn, sheet_of, witnessOf}
-use Rattle.suspects.specs.Suspects.{equal, suspect, SuspectsAre}
+use Rattle.witness.specs.Witness.{above, separates, sheet_of, witnessOf}
+use Rattle.suspects.specs.Suspects.{equal, suspect, suspects_of}
 use Rattle.suspects.proofs.Meaning.{counted}
-use Rattle.book_laws.proofs.Tables.{reading_formed}
-use Rattle.samples.specs.Books.{table_in, two_faults}
-use Rattle.samples.proofs.Computed.{computed}
-use Rattle.excluded.proofs.Left.{writes-something, no-other-length}
+use Rattle.choice_laws.proofs.Tables.{row_from, rows_from, small, two}
+use Rattle.choice_laws.proofs.Excluded.{two_formed}
+use Rattle.excluded.proofs.Left.{no_other, refused_differs, writes-something, no-other-length}
 
 -- ---- "Two tests, correct 0 0; fault a gives 1 1, fault b gives 1 2"
-
-abbrev two : Table
-two = table_in two_faults
-
-two_formed : WellFormed two
-two_formed = reading_formed two_faults
 
 -- the rows of its three classes under both tests
 abbrev pub rows : List ℕ
@@ -52,57 +39,65 @@ rows = 0 ∷ 0 ∷ 1 ∷ 1 ∷ 1 ∷ 2 ∷ []
 abbrev pub witnesses : List ℕ
 witnesses = 0 ∷ 0 ∷ 1 ∷ []
 
--- the sets {0, 1} and {0} are of its tests
-known : Within (TestOf two) 3 × Within (TestOf two) 1
-unfolding computed within
-known = (within_tells 3 2 refl, within_tells 1 2 refl)
+well_formed_lem : well_formed two ≡ true
+well_formed_lem = tested two two_formed
 
-unrefused : Numbered (set_asks two 3) 0
-unrefused = inr (two_formed, inr (known.0, refl))
+-- the sets {0, 1} and {0} are of its tests
+known : (within 3 two.tests ≡ true) × (within 1 two.tests ≡ true)
+unfolding two small within
+known = (refl, refl)
+
+unrefused : set_number two 3 ≡ 0
+unfolding set_number
+unrefused = rw (well_formed_lem, known.0)
 
 dictionary_bytes : dictionary_of two 3 ≡ rows
-unfolding computed joined single has bit outputOf lowest apart alike agrees
+unfolding two small row_from rows_from empty_table place_of cell_at joined single has bit outputOf lowest apart alike every agrees
 dictionary_bytes = refl
 
 sheet_bytes : sheet_of two 3 ≡ witnesses
-unfolding computed joined single has bit first separates separatesIn witnessOf above lowest apart alike agrees
+unfolding two small row_from rows_from empty_table place_of cell_at joined single has bit first separates witnessOf above lowest apart alike every agrees
 sheet_bytes = refl
 
-three_classes : class_count two ≡ 3
-unfolding computed count lowest apart alike agrees
-three_classes = refl
+classified : (classes_of two).verdict ≡ Accepted
+unfolding classes_of
+classified = rw well_formed_lem
+
+three_classes : (classes_of two).count ≡ 3
+unfolding two small row_from rows_from empty_table place_of cell_at count lowest apart alike every agrees
+three_classes = count-given two well_formed_lem (classes_of two) refl
 
 -- under test 0 both faults answer 1
-two_suspects : (r : Suspects) → SuspectsAre two 1 (1 ∷ []) r → r.count ≡ 2
-unfolding computed joined single has bit count suspect equal outputOf
-two_suspects r g = counted two 1 (1 ∷ []) two_formed known.1 refl r g
+two_suspects : (suspects_of two 1 (1 ∷ [])).count ≡ 2
+unfolding two small row_from rows_from empty_table place_of cell_at joined single has bit count suspect equal outputOf
+two_suspects = counted two 1 (1 ∷ []) well_formed_lem known.1 refl (suspects_of two 1 (1 ∷ [])) refl
 
 -- ---- what the promises exclude
 
 -- "a dictionary call that writes nothing"
-pub dictionary_writes_nothing : (d : List ℕ) → 6 ≤ length d → (take 6 d ≡ rows → ⊥) → (r : Written) → WritesOnto (set_asks two 3) (dictionary_of two 3) d r d → ⊥
-dictionary_writes_nothing = writes-something (set_asks two 3) (dictionary_of two 3) rows unrefused dictionary_bytes
+pub dictionary_writes_nothing : (d : List ℕ) → 6 ≤ length d → (take 6 d ≡ rows → ⊥) → (r : Written) → WritesOnto (set_number two 3) (dictionary_of two 3) d r d → ⊥
+dictionary_writes_nothing = writes-something (set_number two 3) (dictionary_of two 3) rows unrefused dictionary_bytes
 
 -- the same of the witness sheet
-pub sheet_writes_nothing : (d : List ℕ) → 3 ≤ length d → (take 3 d ≡ witnesses → ⊥) → (r : Written) → WritesOnto (set_asks two 3) (sheet_of two 3) d r d → ⊥
-sheet_writes_nothing = writes-something (set_asks two 3) (sheet_of two 3) witnesses unrefused sheet_bytes
+pub sheet_writes_nothing : (d : List ℕ) → 3 ≤ length d → (take 3 d ≡ witnesses → ⊥) → (r : Written) → WritesOnto (set_number two 3) (sheet_of two 3) d r d → ⊥
+sheet_writes_nothing = writes-something (set_number two 3) (sheet_of two 3) witnesses unrefused sheet_bytes
 
 -- "a class, byte or test count made up": the bytes of the dictionary,
-pub made_up_dictionary_bytes : (d : List ℕ) → 6 ≤ length d → (n : ℕ) → (n ≡ 6 → ⊥) → (r : Written) (e : List ℕ) → WritesOnto (set_asks two 3) (dictionary_of two 3) d r e → written_count r ≡ n → ⊥
-made_up_dictionary_bytes = no-other-length (set_asks two 3) (dictionary_of two 3) rows unrefused dictionary_bytes
+pub made_up_dictionary_bytes : (d : List ℕ) → 6 ≤ length d → (n : ℕ) → (n ≡ 6 → ⊥) → (r : Written) (e : List ℕ) → WritesOnto (set_number two 3) (dictionary_of two 3) d r e → written_count r ≡ n → ⊥
+made_up_dictionary_bytes = no-other-length (set_number two 3) (dictionary_of two 3) rows unrefused dictionary_bytes
 
 -- of the witness sheet,
-pub made_up_sheet_bytes : (d : List ℕ) → 3 ≤ length d → (n : ℕ) → (n ≡ 3 → ⊥) → (r : Written) (e : List ℕ) → WritesOnto (set_asks two 3) (sheet_of two 3) d r e → written_count r ≡ n → ⊥
-made_up_sheet_bytes = no-other-length (set_asks two 3) (sheet_of two 3) witnesses unrefused sheet_bytes
+pub made_up_sheet_bytes : (d : List ℕ) → 3 ≤ length d → (n : ℕ) → (n ≡ 3 → ⊥) → (r : Written) (e : List ℕ) → WritesOnto (set_number two 3) (sheet_of two 3) d r e → written_count r ≡ n → ⊥
+made_up_sheet_bytes = no-other-length (set_number two 3) (sheet_of two 3) witnesses unrefused sheet_bytes
 
 -- the classes,
-pub made_up_classes : (n : ℕ) → (n ≡ 3 → ⊥) → (c : Classes) → ClassesAre two c → c.count ≡ n → ⊥
-made_up_classes n other c g e = other (sym e ∙ count-given two two_formed c g ∙ three_classes)
+pub made_up_classes : (n : ℕ) → (n ≡ 3 → ⊥) → (c : Classes) → c ≡ classes_of two → c.count ≡ n → ⊥
+made_up_classes = no_other (λ (c : Classes). c.count) (classes_of two) 3 three_classes
 
 -- and the suspects
-pub made_up_suspects : (n : ℕ) → (n ≡ 2 → ⊥) → (r : Suspects) → SuspectsAre two 1 (1 ∷ []) r → r.count ≡ n → ⊥
-made_up_suspects n other r g e = other (sym e ∙ two_suspects r g)
+pub made_up_suspects : (n : ℕ) → (n ≡ 2 → ⊥) → (r : Suspects) → r ≡ suspects_of two 1 (1 ∷ []) → r.count ≡ n → ⊥
+made_up_suspects = no_other (λ (r : Suspects). r.count) (suspects_of two 1 (1 ∷ [])) 2 two_suspects
 
 -- "a reader or chooser that only ever refuses": such a version of `classify`
-pub classes_only_refusing : (why : Refusal) (c : Classes) → ClassesAre two c → verdict_number c.verdict ≡ number_of why → ⊥
-classes_only_refusing why c g e = omega (arith, number_bounds why, formed_accepted two _ g.number two_formed)
+pub classes_only_refusing : (why : Refusal) (c : Classes) → c ≡ classes_of two → c.verdict ≡ Refused why → ⊥
+classes_only_refusing why = no_other (λ (c : Classes). c.verdict) (classes_of two) Accepted classified (Refused why) (refused_differs why)

@@ -5,23 +5,28 @@ use Prim.Native.Nat.{ℕ, ◌≤◌}
 use native.Mathlib.Omega.{arith}
 use lib.ListN.{length, take}
 use Rattle.folds.proofs.Onto.{onto_front}
-use Rattle.asks.specs.Asks.{Ask, Numbered}
 use Rattle.lent.specs.Lent.{WritesOnto}
-use Rattle.lent.proofs.Lent.{writes_accepted}
+use Rattle.lent.proofs.Lent.{room-enough}
 use Rattle.table.specs.Answers.{written_number, written_count}
+use Rattle.table.specs.declared.Refusal.{Refusal}
+use Rattle.table.specs.declared.Verdict.{Verdict}
+use Rattle.table.specs.declared.Verdict.TheVariants.{Accepted, Refused}
 use Rattle.table.specs.declared.Written.{Written}
 use Rattle.table.specs.declared.Written.TheVariants.{Bytes}
 use Rattle.table.proofs.Answers.{written_one}
 
 -- where a is the one answer, and b is what it says, no answer says another
-no_other : {A B : Type 0} (says : A → B) (a : A) (b : B) → says a ≡ b → (other : B) → (other ≡ b → ⊥) → (r : A) → r ≡ a → says r ≡ other → ⊥
+pub no_other : {A B : Type 0} (says : A → B) (a : A) (b : B) → says a ≡ b → (other : B) → (other ≡ b → ⊥) → (r : A) → r ≡ a → says r ≡ other → ⊥
 no_other says a b h other differs r e q = differs (sym q ∙ ap says e ∙ h)
 
+pub refused_differs : (why : Refusal) → ◌≡◌ {A = Verdict} (Refused why) Accepted → ⊥
+refused_differs why e = let z : ◌≡◌ {A = ℕ} 0 1 = cc in omega arith
+
 -- a call that nothing refuses, whose answer is xs, on a buffer d that has room for it
-module _ (earlier : List Ask) (answer xs : List ℕ) (unrefused : Numbered earlier 0) (is : answer ≡ xs) (d : List ℕ) (room : length xs ≤ length d) where
+module _ (earlier : ℕ) (answer xs : List ℕ) (unrefused : earlier ≡ 0) (is : answer ≡ xs) (d : List ℕ) (room : length xs ≤ length d) where
   module _ (r : Written) (e : List ℕ) (w : WritesOnto earlier answer d r e) where
     accepted : written_number r ≡ 0
-    accepted = writes_accepted earlier answer d r e w unrefused (rw is room)
+    accepted = w.number ∙ rw (unrefused, is) (room-enough xs d room)
 
     all-bytes : r ≡ Bytes (length xs)
     all-bytes = written_one r (Bytes (length xs)) accepted (w.count ∙ rw (accepted, is))

@@ -6,62 +6,61 @@ use Prim.Native.Nat.{ℕ, ◌+◌, ◌-◌}
 use native.Mathlib.Omega.{arith}
 use lib.ListN.{length, get_or, length-append}
 use lib.Seq.{get_or-append-add}
+use Rattle.folds.specs.Fold.{every}
+use Rattle.table.specs.Table.{cell_at, empty_table, place_of}
 use Rattle.table.specs.declared.Reading.{Reading}
 use Rattle.table.specs.declared.Refusal.{Refusal}
 use Rattle.table.specs.declared.Table.{Table}
-use Rattle.table.specs.Answers.{number_of, verdict_number}
-use Rattle.table.proofs.Answers.{number_bounds}
-use Rattle.checks.specs.Cursor.{Read}
-use Rattle.book.specs.Reading.{read_book, ReadingIs}
-use Rattle.records.specs.Step.{record_bytes}
+use Rattle.table.specs.declared.Verdict.{Verdict}
+use Rattle.table.specs.declared.Verdict.TheVariants.{Accepted, Refused}
+use Rattle.grow.specs.Grow.{differs, filled}
+use Rattle.book.specs.Reading.{read_book}
+use Rattle.records.specs.Step.{record_bytes, edgeRule, endRule, faultRule, first_of, kindRule, responseRule, ruleAt, stepAt, testRule, unknownRule}
 use Rattle.records.specs.declared.Record.TheVariants.{End}
 use Rattle.book_laws.specs.Accepts.{BookOfTable}
 use Rattle.book_laws.proofs.Accepted.{accepted_gave, accepts_whole}
 use Rattle.book_laws.proofs.Body.{body_of, book-body}
 use Rattle.book_laws.proofs.Books.{book_accepts}
-use Rattle.samples.specs.Books.{equal_tests}
-use Rattle.samples.proofs.Computed.{computed}
+use Rattle.small_books.specs.Books.{equal_tests}
+use Rattle.excluded.proofs.Left.{no_other, refused_differs}
 
--- ---- what the promise leaves of a reading
+-- ---- what a reading says
 
-module _ (book : List ℕ) (r : Reading) (p : ReadingIs (read_book book) r) where
-  -- where the book is accepted, no refusal
-  unrefused : (read_book book).number ≡ 0 → (why : Refusal) → verdict_number r.verdict ≡ number_of why → ⊥
-  unrefused e why q = omega (arith, number_bounds why, p.number)
+abbrev verdict_of : Reading → Verdict
+verdict_of r = r.verdict
 
-  -- no other count of tests, or of faults
-  no-other-tests : (k n : ℕ) → (read_book book).table.tests ≡ k → (n ≡ k → ⊥) → r.table.tests ≡ n → ⊥
-  no-other-tests k n e other q = other (sym q ∙ ap (λ (tb : Table). tb.tests) p.table ∙ e)
+abbrev test_count : Reading → ℕ
+test_count r = r.table.tests
 
-  no-other-faults : (k n : ℕ) → (read_book book).table.faults ≡ k → (n ≡ k → ⊥) → r.table.faults ≡ n → ⊥
-  no-other-faults k n e other q = other (sym q ∙ ap (λ (tb : Table). tb.faults) p.table ∙ e)
+abbrev fault_count : Reading → ℕ
+fault_count r = r.table.faults
 
 -- ---- "Two equal tests and one fault they see"
 
-read : ((read_book equal_tests).number ≡ 0) × ((read_book equal_tests).table.tests ≡ 2) × ((read_book equal_tests).table.faults ≡ 1)
-unfolding computed
+read : (verdict_of (read_book equal_tests) ≡ Accepted) × (test_count (read_book equal_tests) ≡ 2) × (fault_count (read_book equal_tests) ≡ 1)
+unfolding read_book stepAt ruleAt kindRule edgeRule unknownRule endRule responseRule faultRule testRule first_of filled differs empty_table cell_at place_of every
 read = (refl, refl, refl)
 
 -- "a reader or chooser that only ever refuses"
-pub reader_only_refusing : (why : Refusal) (r : Reading) → ReadingIs (read_book equal_tests) r → verdict_number r.verdict ≡ number_of why → ⊥
-reader_only_refusing why r p = unrefused equal_tests r p read.0 why
+pub reader_only_refusing : (why : Refusal) (r : Reading) → r ≡ read_book equal_tests → r.verdict ≡ Refused why → ⊥
+reader_only_refusing why = no_other verdict_of (read_book equal_tests) Accepted read.0 (Refused why) (refused_differs why)
 
 -- "a class, byte or test count made up": of tests
-pub made_up_tests : (n : ℕ) → (n ≡ 2 → ⊥) → (r : Reading) → ReadingIs (read_book equal_tests) r → r.table.tests ≡ n → ⊥
-made_up_tests n other r p = no-other-tests equal_tests r p 2 n read.1 other
+pub made_up_tests : (n : ℕ) → (n ≡ 2 → ⊥) → (r : Reading) → r ≡ read_book equal_tests → r.table.tests ≡ n → ⊥
+made_up_tests = no_other test_count (read_book equal_tests) 2 read.1
 
 -- "a class, byte or test count made up": of faults
-pub made_up_faults : (n : ℕ) → (n ≡ 1 → ⊥) → (r : Reading) → ReadingIs (read_book equal_tests) r → r.table.faults ≡ n → ⊥
-made_up_faults n other r p = no-other-faults equal_tests r p 1 n read.2 other
+pub made_up_faults : (n : ℕ) → (n ≡ 1 → ⊥) → (r : Reading) → r ≡ read_book equal_tests → r.table.faults ≡ n → ⊥
+made_up_faults = no_other fault_count (read_book equal_tests) 1 read.2
 
 -- ---- every book
 
 -- "a reader or chooser that only ever refuses": no book of a well-formed table is refused
-pub refuses_a_good_book : (book : List ℕ) (tb : Table) → BookOfTable book tb → (why : Refusal) (r : Reading) → ReadingIs (read_book book) r → verdict_number r.verdict ≡ number_of why → ⊥
-refuses_a_good_book book tb b why r p = unrefused book r p (ap (λ (x : Read). x.number) (book_accepts book tb b)) why
+pub refuses_a_good_book : (book : List ℕ) (tb : Table) → BookOfTable book tb → (why : Refusal) (r : Reading) → r ≡ read_book book → r.verdict ≡ Refused why → ⊥
+refuses_a_good_book book tb b why = no_other verdict_of (read_book book) Accepted (ap verdict_of (book_accepts book tb b)) (Refused why) (refused_differs why)
 
 -- an accepted book's last record: "45 hex | 2 bytes | end: number of tests, number of faults"
-module _ (book : List ℕ) (taken : (read_book book).number ≡ 0) where
+module _ (book : List ℕ) (taken : (read_book book).verdict ≡ Accepted) where
   abbrev tb : Table
   tb = (read_book book).table
 
@@ -78,9 +77,9 @@ module _ (book : List ℕ) (taken : (read_book book).number ≡ 0) where
   end-byte k i at = sym (ap (λ (xs : List ℕ). get_or xs k 0) ended ∙ ap (λ (j : ℕ). get_or (body_of tb ++ end) j 0) (sym at) ∙ get_or-append-add (body_of tb) end i 0)
 
   -- "a class, byte or test count made up": the byte before the last counts the tests,
-  pub other-tests-than-its-end : (n : ℕ) → (n ≡ get_or book (length book - 2) 0 → ⊥) → (r : Reading) → ReadingIs (read_book book) r → r.table.tests ≡ n → ⊥
-  other-tests-than-its-end n other r p = no-other-tests book r p (get_or book (length book - 2) 0) n (end-byte (length book - 2) 1 (omega (arith, counted))) other
+  pub other-tests-than-its-end : (n : ℕ) → (n ≡ get_or book (length book - 2) 0 → ⊥) → (r : Reading) → r ≡ read_book book → r.table.tests ≡ n → ⊥
+  other-tests-than-its-end = no_other test_count (read_book book) (get_or book (length book - 2) 0) (end-byte (length book - 2) 1 (omega (arith, counted)))
 
   -- and the last the faults
-  pub other-faults-than-its-end : (n : ℕ) → (n ≡ get_or book (length book - 1) 0 → ⊥) → (r : Reading) → ReadingIs (read_book book) r → r.table.faults ≡ n → ⊥
-  other-faults-than-its-end n other r p = no-other-faults book r p (get_or book (length book - 1) 0) n (end-byte (length book - 1) 2 (omega (arith, counted))) other
+  pub other-faults-than-its-end : (n : ℕ) → (n ≡ get_or book (length book - 1) 0 → ⊥) → (r : Reading) → r ≡ read_book book → r.table.faults ≡ n → ⊥
+  other-faults-than-its-end = no_other fault_count (read_book book) (get_or book (length book - 1) 0) (end-byte (length book - 1) 2 (omega (arith, counted)))

@@ -1,24 +1,22 @@
 -- The table that a call is given. Assumes nothing.
 use mathlib.Core.List.{List}
-use mathlib.Core.Path.{◌≡◌, refl, ap, ◌∙◌}
+use mathlib.Core.Path.{◌≡◌, refl}
 use Prim.Native.Nat.{ℕ}
 use borrow.Author.Tests.{eq-eqb, ne_eqb}
 use lib.ListN.{length, get_or}
 use Rattle.folds.specs.Fold.{listed}
-use Rattle.table.specs.Table.{empty_table, table_with}
 use Rattle.table.specs.declared.Table.{Table}
 use Rattle.flat.specs.Flat.{byte_at, cells_filled, table_of, no_table, lent_table}
 
 module _ (bytes : List ℕ) where
   pub table_right : (tests faults : ℕ) (cells lines stuck : List ℕ) → tests ≡ get_or bytes 0 0 → faults ≡ get_or bytes 1 0 → cells ≡ cells_filled bytes 1464 → lines ≡ listed (byte_at bytes 1466) 60 → stuck ≡ listed (byte_at bytes 1526) 60
-      → (tb : Table) → tb ≡ empty_table → table_with tb tests faults cells lines stuck ≡ table_of bytes
+      → record { tests = tests; faults = faults; cells = cells; lines = lines; stuck = stuck } ≡ table_of bytes
   unfolding table_of
-  table_right tests faults cells lines stuck et ef ec el es tb e =
-      ap (λ (x : Table). table_with x tests faults cells lines stuck) e ∙ rw (et, ef, ec, el, es)
+  table_right tests faults cells lines stuck et ef ec el es = rw (et, ef, ec, el, es)
 
-  pub lent_none : (tb : Table) → (length bytes ≡ 1586 → ⊥) → tb ≡ empty_table → table_with tb 25 tb.faults tb.cells tb.lines tb.stuck ≡ lent_table bytes
-  unfolding lent_table no_table empty_table
-  lent_none tb ne e = rw (ne_eqb (length bytes) 1586 ne, e) refl
+  pub lent_none : (length bytes ≡ 1586 → ⊥) → no_table ≡ lent_table bytes
+  unfolding lent_table
+  lent_none ne = rw (ne_eqb (length bytes) 1586 ne) refl
 
   pub lent-table : (tb : Table) → length bytes ≡ 1586 → tb ≡ table_of bytes → tb ≡ lent_table bytes
   unfolding lent_table

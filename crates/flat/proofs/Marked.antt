@@ -1,34 +1,46 @@
 -- A set of faults as bytes, one for each fault. Assumes nothing.
-use mathlib.Core.Bool.{Bool, true, false}
-use mathlib.Core.List.{List, []}
-use mathlib.Core.Path.{◌≡◌, sym, ◌∙◌}
-use Prim.Native.Nat.{ℕ, ◌+◌, ◌*◌, ◌≤◌, ◌<◌}
+use mathlib.Core.List.{List}
+use mathlib.Core.Path.{◌≡◌, sym, ap, ◌∙◌}
+use Prim.Native.Nat.{ℕ, zero, suc, ◌+◌, ◌*◌, ◌≤◌, ◌<◌}
+use native.Mathlib.Nat.{le_antisymm}
+use native.Mathlib.Numerals.{add-one}
 use native.Mathlib.Omega.{arith}
 use lib.ListN.{length, set}
 use mir.Syntax.{w64}
 use mir.Val.{Fits}
-use Rattle.folds.specs.Fold.{always, listed, onto}
-use Rattle.folds.proofs.Count.{count_le}
+use Rattle.folds.specs.Fold.{always, listed, onto, total}
 use Rattle.folds.proofs.Gather.{listed-length, listed_start, listed-store, gather-end}
-use Rattle.sets.specs.Sets.{bit, has, size}
-use Rattle.sets.proofs.Bits.{has_bit, lacks_bit}
-use Rattle.table.specs.Answers.{number_of}
-use Rattle.table.specs.declared.Refusal.TheVariants.{BufferShort}
-use Rattle.flat.specs.Packed.{packed}
+use Rattle.folds.proofs.Total.{total_none, total_more}
+use Rattle.sets.specs.Sets.{bit}
+use Rattle.table.specs.Answers.{faults_set}
+use Rattle.table.specs.declared.Faults.{Faults}
 use Rattle.flat.specs.Writes.{CallWrites}
 use Rattle.flat.proofs.Room.{call-all, call-short}
 
--- 1 where the set has f, else 0
-module _ (s f : ℕ) (r : Bool) (e : r ≡ has s f) where
-  pub mark-in : r ≡ true → 1 ≡ bit s f
-  mark-in h = sym (has_bit s f (sym e ∙ h))
+bit_small : (s f : ℕ) → bit s f ≤ 1
+unfolding bit
+bit_small s f = omega arith
 
-  pub mark-out : r ≡ false → 0 ≡ bit s f
-  mark-out h = sym (lacks_bit s f (sym e ∙ h))
+total_small : (s n : ℕ) → total (bit s) n ≤ n
+unfolding total
+total_small s zero = omega arith
+total_small s (suc n) = omega (arith, total_small s n, bit_small s n)
 
 module _ (s : ℕ) where
-  pub size_fits : (n m : ℕ) → m ≡ size s n → n ≤ 60 → Fits w64 (m * 256)
-  size_fits n m e h = record { fits = omega (arith, count_le (has s) n) }
+  pub sum-start : 0 ≡ total (bit s) 0
+  sum-start = sym (total_none (bit s))
+
+  pub sum_fits : (f n m b : ℕ) → m ≡ total (bit s) f → b ≡ bit s f → f < n → n ≤ 60 → Fits w64 (m + b)
+  sum_fits f n m b e eb h k = record { fits = omega (arith, total_small s f, bit_small s f) }
+
+  pub sum_more : (f m b : ℕ) → m ≡ total (bit s) f → b ≡ bit s f → m + b ≡ total (bit s) (f + 1)
+  sum_more f m b e eb = rw (e, eb, add-one) (sym (total_more (bit s) f))
+
+  pub sum-end : (f n m : ℕ) → f ≤ n → n ≤ f → m ≡ total (bit s) f → m ≡ total (bit s) n
+  sum-end f n m h k e = e ∙ ap (total (bit s)) (le_antisymm h k)
+
+  pub sum-above : (n m : ℕ) → m ≡ total (bit s) n → n ≤ 60 → Fits w64 (m * 256)
+  sum-above n m e h = record { fits = omega (arith, total_small s n) }
 
   pub marks-start : (d : List ℕ) → d ≡ onto (listed (bit s) 0) d
   marks-start d = listed_start (bit s) d
@@ -39,11 +51,12 @@ module _ (s : ℕ) where
   pub marks-end : (f n : ℕ) (d b : List ℕ) → f ≤ n → n ≤ f → b ≡ onto (listed (bit s) f) d → b ≡ onto (listed (bit s) n) d
   marks-end f n d b h k e = gather-end always (bit s) n f d b e h k
 
-  -- ---- the call
+-- ---- the call
 
-  module _ (n : ℕ) (d : List ℕ) where
-    pub marked-short : (r : ℕ) → length d < n → r ≡ packed (number_of BufferShort) 0 → CallWrites [] (size s n) (listed (bit s) n) d r d
-    marked-short r h = call-short _ _ d n (listed-length (bit s) n) r h
+module _ (a : Faults) (n : ℕ) (d : List ℕ) where
+  pub marked-short : length d < n → CallWrites 0 (total (bit (faults_set a)) n) (listed (bit (faults_set a)) n) d 24 d
+  marked-short h = call-short _ _ d n (listed-length (bit (faults_set a)) n) h
 
-    pub marked_all : (m : ℕ) (e : List ℕ) → n ≤ length d → m ≡ size s n → e ≡ onto (listed (bit s) n) d → CallWrites [] (size s n) (listed (bit s) n) d (m * 256) e
-    marked_all m e h em ee = rw em (call-all (size s n) (listed (bit s) n) d n (listed-length (bit s) n) e h ee)
+  module _ (s : ℕ) (es : s ≡ faults_set a) where
+    pub marked_all : (m : ℕ) (e : List ℕ) → n ≤ length d → m ≡ total (bit s) n → e ≡ onto (listed (bit s) n) d → CallWrites 0 (total (bit (faults_set a)) n) (listed (bit (faults_set a)) n) d (m * 256) e
+    marked_all m e h em ee = rw (← es, em) (call-all (total (bit s) n) (listed (bit s) n) d n (listed-length (bit s) n) e h ee)

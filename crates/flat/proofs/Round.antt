@@ -10,7 +10,7 @@ use Rattle.folds.specs.Fold.{listed}
 use Rattle.folds.proofs.Below.{eq_or_ne}
 use Rattle.folds.proofs.Gather.{listed-length, listed-get}
 use Rattle.table.specs.Table.{cell_at, place_of, output_at}
-use Rattle.table.specs.OfType.{OfType}
+use Rattle.table.specs.WellFormed.{OfType}
 use Rattle.table.specs.declared.Table.{Table}
 use Rattle.table.proofs.Stored.{cell_here, cell_there, cells_same}
 use Rattle.flat.specs.Flat.{byte_at, cells_filled, table_of, cell_of, label_of, bytes_of}
@@ -92,5 +92,5 @@ module _ (tb : Table) where
   pub bytes_back : OfType tb → table_of (bytes_of tb) ≡ tb
   unfolding table_of
   bytes_back o =
-      let c : cells_filled (bytes_of tb) 1464 ≡ tb.cells = cells_same _ _ (filled_long (bytes_of tb) 1464) o.long.cells (λ t c h l. filled_at (bytes_of tb) t c h l 1464 (omega arith) (omega arith) ∙ cell_byte t c h l) in
-      rw (counts.0, counts.1, c, labels-back 1466 tb.lines o.long.lines line-byte, labels-back 1526 tb.stuck o.long.stuck stuck-byte) refl
+      let c : cells_filled (bytes_of tb) 1464 ≡ tb.cells = cells_same _ _ (filled_long (bytes_of tb) 1464) o.cells_long (λ t c h l. filled_at (bytes_of tb) t c h l 1464 (omega arith) (omega arith) ∙ cell_byte t c h l) in
+      rw (counts.0, counts.1, c, labels-back 1466 tb.lines o.lines_long line-byte, labels-back 1526 tb.stuck o.stuck_long stuck-byte) refl

@@ -6,14 +6,11 @@ use native.Mathlib.Omega.{arith}
 use lib.ListN.{length, get_or, length-append}
 use Rattle.folds.specs.Fold.{always, listed, single}
 use Rattle.folds.proofs.Gather.{listed-length}
-use Rattle.text.specs.Writes.{Writes}
+use Rattle.text.specs.Text.{Writes}
 use Rattle.text.proofs.Writes.{writes_then, writes_onto}
 use Rattle.text.proofs.Items.{items-start, items_each, items-end}
 use Rattle.table.specs.Table.{output_at}
 use Rattle.table.specs.declared.Table.{Table}
-use Rattle.table.specs.Answers.{number_of}
-use Rattle.table.specs.declared.Refusal.TheVariants.{BufferShort}
-use Rattle.flat.specs.Packed.{packed}
 use Rattle.flat.specs.Writes.{CallWrites}
 use Rattle.flat.specs.Flat.{cell_of, label_of, bytes_of}
 use Rattle.flat.proofs.Room.{call-all, call-short}
@@ -49,8 +46,8 @@ bytes_long tb =
     simp length-append (omega (arith, listed-length (cell_of (output_at tb)) 1464, listed-length (label_of tb.lines) 60, listed-length (label_of tb.stuck) 60))
 
 module _ (tb : Table) (place : ℕ) (d : List ℕ) where
-  pub given-short : (r : ℕ) → length d < 1586 → r ≡ packed (number_of BufferShort) 0 → CallWrites [] place (bytes_of tb) d r d
-  given-short r h = call-short place (bytes_of tb) d 1586 (bytes_long tb) r h
+  pub given-short : length d < 1586 → CallWrites 0 place (bytes_of tb) d 24 d
+  given-short h = call-short place (bytes_of tb) d 1586 (bytes_long tb) h
 
-  pub given-all : (r : ℕ) (e : List ℕ) → 1586 ≤ length d → Writes 0 (bytes_of tb) d r e → CallWrites [] place (bytes_of tb) d (place * 256) e
+  pub given-all : (r : ℕ) (e : List ℕ) → 1586 ≤ length d → Writes 0 (bytes_of tb) d r e → CallWrites 0 place (bytes_of tb) d (place * 256) e
   given-all r e h w = call-all place (bytes_of tb) d 1586 (bytes_long tb) e h (writes_onto r (bytes_of tb) d e w (omega (arith, bytes_long tb)))

@@ -2,8 +2,8 @@
 -- values. This layout is the crate's own: the cells go through `place_of`, wherever the table has them.
 -- Assumes nothing.
 use Rattle.std.specs.Prelude.{List, [], ◌∷◌, ◌++◌, ℕ, zero, suc, ◌+◌, ◌/◌, ◌%◌, eqb, length, get_or, set, replicate}
-use Rattle.folds.specs.Fold.{whether, listed}
-use Rattle.table.specs.Table.{place_of, output_at, empty_table, table_with}
+use Rattle.folds.specs.Fold.{pick, listed}
+use Rattle.table.specs.Table.{place_of, output_at}
 use Rattle.table.specs.declared.Table.{Table}
 
 unfoldable pub byte_at : List ℕ → ℕ → ℕ → ℕ
@@ -15,16 +15,22 @@ cells_filled bytes zero = replicate 1464 0
 cells_filled bytes (suc k) = set (cells_filled bytes k) (place_of (k / 61) (k % 61)) (get_or bytes (k + 2) 0)
 
 unfoldable pub table_of : List ℕ → Table
-table_of bytes =
-    table_with empty_table (get_or bytes 0 0) (get_or bytes 1 0) (cells_filled bytes 1464) (listed (byte_at bytes 1466) 60) (listed (byte_at bytes 1526) 60)
+table_of bytes = record {
+  tests = get_or bytes 0 0;
+  faults = get_or bytes 1 0;
+  cells = cells_filled bytes 1464;
+  lines = listed (byte_at bytes 1466) 60;
+  stuck = listed (byte_at bytes 1526) 60;
+}
 
--- a table that is not well formed, for bytes that are no table: 25 tests, and else empty
+-- a table that is not well formed, for bytes that are no table
 unfoldable pub no_table : Table
-no_table = table_with empty_table 25 0 empty_table.cells empty_table.lines empty_table.stuck
+no_table =
+    record { tests = 25; faults = 0; cells = replicate 1464 0; lines = replicate 60 0; stuck = replicate 60 0 }
 
 -- the table that the bytes give a call
 unfoldable pub lent_table : List ℕ → Table
-lent_table bytes = whether (eqb (length bytes) 1586) (table_of bytes) no_table
+lent_table bytes = pick (eqb (length bytes) 1586) (table_of bytes) no_table
 
 -- cell k, where `out` gives the output of a test in a column
 unfoldable pub cell_of : (ℕ → ℕ → ℕ) → ℕ → ℕ

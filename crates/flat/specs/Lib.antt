@@ -1,4 +1,3 @@
 pub mod Flat
 pub mod Packed
-pub mod Caps
 pub mod Writes

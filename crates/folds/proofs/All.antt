@@ -7,7 +7,7 @@ use Prim.Native.Nat.{ℕ, zero, suc, ◌<◌}
 use native.Mathlib.Nat.{le_of_suc-le-suc}
 use native.Mathlib.Omega.{arith}
 use lib.ListN.{length, get_or}
-use Rattle.folds.specs.Fold.{whether, joined, single, gather}
+use Rattle.folds.specs.Fold.{pick, joined, single, gather}
 use Rattle.folds.proofs.Bools.{clash}
 use Rattle.folds.proofs.Below.{below_cases}
 
@@ -50,9 +50,9 @@ module _ (Q : ℕ → Type 0) where
     pub joined-all : (n : ℕ) → ((i : ℕ) → i < n → p i ≡ true → AllOf Q (g i)) → AllOf Q (joined p g n)
     unfolding joined
     joined-all zero h k l = absurd (omega arith)
-    joined-all (suc n) h k l = all_append (joined p g n) (whether (p n) (g n) []) (joined-all n (λ i m. h i (omega arith))) (go (p n) refl) k l
+    joined-all (suc n) h k l = all_append (joined p g n) (pick (p n) (g n) []) (joined-all n (λ i m. h i (omega arith))) (go (p n) refl) k l
       where
-        go : (b : Bool) → p n ≡ b → AllOf Q (whether b (g n) [])
+        go : (b : Bool) → p n ≡ b → AllOf Q (pick b (g n) [])
         go true e = h n (omega arith) e
         go false e = λ k l. absurd (omega arith)
 
@@ -60,11 +60,11 @@ module _ (Q : ℕ → Type 0) where
     unfolding joined
     joined_at zero h i l e k m = absurd (omega arith)
     joined_at (suc n) h i l e k m =
-        ⊎_elim (λ v. joined_at n (all_left (joined p g n) (whether (p n) (g n) []) h) i v e k m)
-        (λ (q : i ≡ n). go (p n) (rw q at e) (all_right (joined p g n) (whether (p n) (g n) []) h) q)
+        ⊎_elim (λ v. joined_at n (all_left (joined p g n) (pick (p n) (g n) []) h) i v e k m)
+        (λ (q : i ≡ n). go (p n) (rw q at e) (all_right (joined p g n) (pick (p n) (g n) []) h) q)
         (below_cases i n l)
       where
-        go : (b : Bool) → b ≡ true → AllOf Q (whether b (g n) []) → i ≡ n → Q (get_or (g i) k 0)
+        go : (b : Bool) → b ≡ true → AllOf Q (pick b (g n) []) → i ≡ n → Q (get_or (g i) k 0)
         go true t w q = rw q (w k (rw q at m))
         go false t w q = clash false t refl
 

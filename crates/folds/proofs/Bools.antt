@@ -5,15 +5,15 @@ use mathlib.Core.Logic.{◌⊎◌, inl, inr}
 use Prim.Native.Nat.{ℕ}
 use native.Mathlib.Omega.{arith}
 use borrow.Author.Tests.{not-true}
-use Rattle.folds.specs.Fold.{whether, both, either, Tells}
+use Rattle.folds.specs.Fold.{pick, both, either, Tells}
 
 -- a test does not hold and fail
 pub clash : {A : Type 0} (b : Bool) → b ≡ true → b ≡ false → A
 clash b p q = let z : ◌≡◌ {A = ℕ} 0 1 = cc in absurd (omega arith)
 
-pub whether_ap : {A B : Type 0} (f : A → B) (b : Bool) (x y : A) → f (whether b x y) ≡ whether b (f x) (f y)
-whether_ap f true x y = refl
-whether_ap f false x y = refl
+pub pick_ap : {A B : Type 0} (f : A → B) (b : Bool) (x y : A) → f (pick b x y) ≡ pick b (f x) (f y)
+pick_ap f true x y = refl
+pick_ap f false x y = refl
 
 pub both_true : (a b : Bool) → a ≡ true → b ≡ true → both a b ≡ true
 both_true a b p q = rw (p, q)

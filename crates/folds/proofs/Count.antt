@@ -6,14 +6,14 @@ use Prim.Native.Nat.{ℕ, zero, suc, ◌+◌, ◌-◌, ◌≤◌, ◌<◌}
 use native.Mathlib.Nat.{le_antisymm, le_refl}
 use native.Mathlib.Numerals.{add-one}
 use native.Mathlib.Omega.{arith}
-use Rattle.folds.specs.Fold.{whether, count}
+use Rattle.folds.specs.Fold.{pick, count}
 use Rattle.folds.proofs.Below.{below_cases}
 
 pub count_none : (p : ℕ → Bool) → count p 0 ≡ 0
 unfolding count
 count_none p = refl
 
-pub count_more : (p : ℕ → Bool) (i : ℕ) → count p (i + 1) ≡ count p i + whether (p i) 1 0
+pub count_more : (p : ℕ → Bool) (i : ℕ) → count p (i + 1) ≡ count p i + pick (p i) 1 0
 unfolding count
 count_more p i = rw add-one
 
@@ -23,7 +23,7 @@ count_yes p i h = rw (count_more, h)
 pub count_no : (p : ℕ → Bool) (i : ℕ) → p i ≡ false → count p (i + 1) ≡ count p i
 count_no p i h = rw (count_more, h) (omega arith)
 
-one_at_most : (b : Bool) → whether {A = ℕ} b 1 0 ≤ 1
+one_at_most : (b : Bool) → pick {A = ℕ} b 1 0 ≤ 1
 one_at_most true = omega arith
 one_at_most false = omega arith
 
@@ -52,8 +52,8 @@ count_reaches p (suc n) k h = go (p n) refl (count_reaches p n k)
     go true e r =
         ⊎_elim (λ (w : k < count p n). let x = r w in (x.0, omega (arith, x.1), x.2, x.3))
         (λ (w : k ≡ count p n). (n, omega arith, e, sym w))
-        (below_cases k (count p n) (let q : whether {A = ℕ} (p n) 1 0 ≡ 1 = rw e in omega arith))
-    go false e r = let x = r (let q : whether {A = ℕ} (p n) 1 0 ≡ 0 = rw e in omega arith) in (x.0, omega (arith, x.1), x.2, x.3)
+        (below_cases k (count p n) (let q : pick {A = ℕ} (p n) 1 0 ≡ 1 = rw e in omega arith))
+    go false e r = let x = r (let q : pick {A = ℕ} (p n) 1 0 ≡ 0 = rw e in omega arith) in (x.0, omega (arith, x.1), x.2, x.3)
 
 -- numbers above a alone have p: below i there are at most i - (a + 1)
 pub count_above : (p : ℕ → Bool) (a : ℕ) → ((i : ℕ) → p i ≡ true → a < i) → (i : ℕ) → count p i ≤ i - (a + 1)
@@ -61,7 +61,7 @@ unfolding count
 count_above p a h zero = omega arith
 count_above p a h (suc i) = go (p i) refl (count_above p a h i)
   where
-    go : (b : Bool) → p i ≡ b → count p i ≤ i - (a + 1) → count p i + whether b 1 0 ≤ suc i - (a + 1)
+    go : (b : Bool) → p i ≡ b → count p i ≤ i - (a + 1) → count p i + pick b 1 0 ≤ suc i - (a + 1)
     go true e k = omega (arith, h i e)
     go false e k = omega arith
 

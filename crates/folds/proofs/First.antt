@@ -5,7 +5,7 @@ use Prim.Native.Nat.{ℕ, zero, suc, ◌+◌, ◌≤◌, ◌<◌, zero-le}
 use native.Mathlib.Nat.{le_antisymm, not-suc-le-zero}
 use native.Mathlib.Omega.{arith}
 use borrow.Author.Count.{below_more}
-use Rattle.folds.specs.Fold.{whether, first}
+use Rattle.folds.specs.Fold.{pick, first}
 
 pub first_found : (p : ℕ → Bool) (n i : ℕ) → i < n → ((k : ℕ) → k < i → p k ≡ false) → p i ≡ true → first p n ≡ i
 unfolding first
@@ -24,7 +24,7 @@ unfolding first
 first_below p zero k h = absurd (not-suc-le-zero h)
 first_below p (suc n) k h = go (p zero) refl (λ j w. first_below (λ i. p (suc i)) n j w) k h
   where
-    go : (b : Bool) → p zero ≡ b → ((j : ℕ) → j < first (λ i. p (suc i)) n → p (suc j) ≡ false) → (k : ℕ) → k < whether b zero (suc (first (λ i. p (suc i)) n)) → p k ≡ false
+    go : (b : Bool) → p zero ≡ b → ((j : ℕ) → j < first (λ i. p (suc i)) n → p (suc j) ≡ false) → (k : ℕ) → k < pick b zero (suc (first (λ i. p (suc i)) n)) → p k ≡ false
     go true e r k w = absurd (not-suc-le-zero w)
     go false e r zero w = e
     go false e r (suc k) w = r k (omega arith)
@@ -34,7 +34,7 @@ unfolding first
 first_has p zero h = absurd (not-suc-le-zero h)
 first_has p (suc n) h = go (p zero) refl (λ w. first_has (λ i. p (suc i)) n w) h
   where
-    go : (b : Bool) → p zero ≡ b → (first (λ i. p (suc i)) n < n → p (suc (first (λ i. p (suc i)) n)) ≡ true) → whether b zero (suc (first (λ i. p (suc i)) n)) < suc n → p (whether b zero (suc (first (λ i. p (suc i)) n))) ≡ true
+    go : (b : Bool) → p zero ≡ b → (first (λ i. p (suc i)) n < n → p (suc (first (λ i. p (suc i)) n)) ≡ true) → pick b zero (suc (first (λ i. p (suc i)) n)) < suc n → p (pick b zero (suc (first (λ i. p (suc i)) n))) ≡ true
     go true e r w = e
     go false e r w = r (omega arith)
 
@@ -43,7 +43,7 @@ unfolding first
 first_le p zero = zero-le
 first_le p (suc n) = go (p zero) (first_le (λ i. p (suc i)) n)
   where
-    go : (b : Bool) → first (λ i. p (suc i)) n ≤ n → whether b zero (suc (first (λ i. p (suc i)) n)) ≤ suc n
+    go : (b : Bool) → first (λ i. p (suc i)) n ≤ n → pick b zero (suc (first (λ i. p (suc i)) n)) ≤ suc n
     go true h = zero-le
     go false h = omega arith
 

@@ -9,7 +9,7 @@ use native.Mathlib.Numerals.{add-one}
 use native.Mathlib.Omega.{arith}
 use lib.ListN.{length, take, drop, length-append, length-drop}
 use lib.Seq.{take-append-le, drop-append-le, drop-append_seam, take-length}
-use Rattle.folds.specs.Fold.{whether, count, joined, onto}
+use Rattle.folds.specs.Fold.{pick, count, joined, onto}
 use Rattle.folds.proofs.Below.{below_cases}
 use Rattle.folds.proofs.Onto.{onto_none, onto_part}
 
@@ -19,9 +19,9 @@ unfolding joined
 joined_alike p q g h zero e f = refl
 joined_alike p q g h (suc n) e f =
     ap₂ (λ (a b : List ℕ). a ++ b) (joined_alike p q g h n (λ i w. e i (omega arith)) (λ i w. f i (omega arith)))
-    (go (p n) refl ∙ ap (λ (b : Bool). whether b (h n) []) (e n (omega arith)))
+    (go (p n) refl ∙ ap (λ (b : Bool). pick b (h n) []) (e n (omega arith)))
   where
-    go : (b : Bool) → p n ≡ b → whether b (g n) [] ≡ whether b (h n) []
+    go : (b : Bool) → p n ≡ b → pick b (g n) [] ≡ pick b (h n) []
     go true t = f n (omega arith) t
     go false t = refl
 
@@ -56,7 +56,7 @@ module _ (p : ℕ → Bool) (g : ℕ → List ℕ) where
   joined-rows k zero h = sym (zero-mul _)
   joined-rows k (suc n) h = simp (length-append, joined-rows k n h, add-mul) (ap (λ (x : ℕ). count p n * k + x) (row (p n)))
     where
-      row : (b : Bool) → length (whether b (g n) []) ≡ whether b 1 0 * k
+      row : (b : Bool) → length (pick b (g n) []) ≡ pick b 1 0 * k
       row true = h n ∙ sym (one-mul _)
       row false = sym (zero-mul _)
 
@@ -69,12 +69,12 @@ module _ (p : ℕ → Bool) (g : ℕ → List ℕ) where
       (λ (v : i < n).
       let a : length (joined p g i) ≤ length (joined p g n) = joined-mono i n (omega arith) in
       let b : length (g i) ≤ length (drop (length (joined p g i)) (joined p g n)) = simp length-drop (omega (arith, yes-length i q, joined-mono (i + 1) n (omega arith))) in
-      rw (drop-append-le (length (joined p g i)) (joined p g n) (whether (p n) (g n) []) a, take-append-le (length (g i)) _ (whether (p n) (g n) []) b) (joined-part n i v q))
+      rw (drop-append-le (length (joined p g i)) (joined p g n) (pick (p n) (g n) []) a, take-append-le (length (g i)) _ (pick (p n) (g n) []) b) (joined-part n i v q))
       (λ (e : i ≡ n). let r : p n ≡ true = rw (← e) q in rw (e, r, drop-append_seam (joined p g n) (g n), take-length (g n)))
       (below_cases i n w)
 
   -- nothing more from k on
-  pub joined-stop : (k n : ℕ) → k ≤ n → ((i : ℕ) → k ≤ i → i < n → whether (p i) (g i) [] ≡ []) → joined p g n ≡ joined p g k
+  pub joined-stop : (k n : ℕ) → k ≤ n → ((i : ℕ) → k ≤ i → i < n → pick (p i) (g i) [] ≡ []) → joined p g n ≡ joined p g k
   unfolding joined
   joined-stop k zero l e = let z : k ≡ 0 = omega arith in rw z refl
   joined-stop k (suc n) l e =
@@ -83,13 +83,13 @@ module _ (p : ℕ → Bool) (g : ℕ → List ℕ) where
       (λ (w : k ≡ suc n). rw w refl)
       (below_cases k (suc n) (omega arith))
 
-  pub joined-most : (k n : ℕ) → ((i : ℕ) → i < n → length (g i) ≤ k) → length (joined p g n) ≤ n * k
+  pub joined-most : (k n : ℕ) → ((i : ℕ) → length (g i) ≤ k) → length (joined p g n) ≤ n * k
   unfolding joined
   joined-most k zero h = omega arith
-  joined-most k (suc n) h = simp length-append (omega (arith, joined-most k n (λ i l. h i (omega arith)), go (p n)))
+  joined-most k (suc n) h = simp length-append (omega (arith, joined-most k n h, go (p n)))
     where
-      go : (b : Bool) → length (whether b (g n) []) ≤ k
-      go true = h n (omega arith)
+      go : (b : Bool) → length (pick b (g n) []) ≤ k
+      go true = h n
       go false = omega arith
 
   -- ---- a loop that writes row i to its part where i has p; `at` is where the next part starts

@@ -6,13 +6,13 @@ use Prim.Native.Nat.{ℕ, zero, suc, ◌+◌, ◌<◌}
 use native.Mathlib.Nat.{add-zero}
 use native.Mathlib.Numerals.{add-one}
 use native.Mathlib.Omega.{arith}
-use Rattle.folds.specs.Fold.{whether, joined}
+use Rattle.folds.specs.Fold.{pick, joined}
 
 module _ (p : ℕ → Bool) (g : ℕ → List ℕ) where
   -- n rows from row k
   unfoldable rows_from : ℕ → ℕ → List ℕ
   rows_from k zero = []
-  rows_from k (suc n) = whether (p k) (g k) [] ++ rows_from (k + 1) n
+  rows_from k (suc n) = pick (p k) (g k) [] ++ rows_from (k + 1) n
 
   joined-split : (n k : ℕ) → joined p g (k + n) ≡ joined p g k ++ rows_from k n
   unfolding joined rows_from
@@ -34,7 +34,7 @@ module _ (p : ℕ → Bool) (g : ℕ → List ℕ) where
     run-from zero k rest e a = let q : k ≡ m = omega arith in rw q at a
     run-from (suc n) k rest e a = run-from n (k + 1) rest (omega arith) (go (p k) refl (rw append_assoc at a))
       where
-        go : (b : Bool) → p k ≡ b → A k (whether b (g k) [] ++ (rows_from (k + 1) n ++ rest)) → A (k + 1) (rows_from (k + 1) n ++ rest)
+        go : (b : Bool) → p k ≡ b → A k (pick b (g k) [] ++ (rows_from (k + 1) n ++ rest)) → A (k + 1) (rows_from (k + 1) n ++ rest)
         go true t h = took k (rows_from (k + 1) n ++ rest) (omega arith) t h
         go false t h = passed k (rows_from (k + 1) n ++ rest) (omega arith) t h
 

@@ -6,8 +6,7 @@ use Prim.Native.Nat.{ℕ, zero, suc, ◌+◌, ◌≤◌, ◌<◌}
 use native.Mathlib.Nat.{le_antisymm}
 use native.Mathlib.Numerals.{add-one}
 use native.Mathlib.Omega.{arith}
-use Rattle.folds.specs.Fold.{either}
-use Rattle.folds.specs.Some.{some}
+use Rattle.folds.specs.Fold.{either, some}
 use Rattle.folds.proofs.Below.{below_cases}
 use Rattle.folds.proofs.Bools.{clash, either_left, either_right}
 

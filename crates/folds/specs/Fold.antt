@@ -3,9 +3,9 @@
 use Rattle.std.specs.Prelude.{Bool, true, false, List, [], ◌∷◌, ◌++◌, ℕ, zero, suc, ◌+◌, length, drop}
 
 -- a where the test holds, else b
-abbrev pub whether : {A : Type 0} → Bool → A → A → A
-whether true a b = a
-whether false a b = b
+abbrev pub pick : {A : Type 0} → Bool → A → A → A
+pick true a b = a
+pick false a b = b
 
 abbrev pub both : Bool → Bool → Bool
 both true b = b
@@ -25,10 +25,15 @@ unfoldable pub every : (ℕ → Bool) → ℕ → Bool
 every p zero = true
 every p (suc n) = both (every p n) (p n)
 
+-- some number below n has p
+unfoldable pub some : (ℕ → Bool) → ℕ → Bool
+some p zero = false
+some p (suc n) = either (some p n) (p n)
+
 -- how many numbers below n have p
 unfoldable pub count : (ℕ → Bool) → ℕ → ℕ
 count p zero = 0
-count p (suc n) = count p n + whether (p n) 1 0
+count p (suc n) = count p n + pick (p n) 1 0
 
 -- the sum of f over the numbers below n
 unfoldable pub total : (ℕ → ℕ) → ℕ → ℕ
@@ -38,12 +43,12 @@ total f (suc n) = total f n + f n
 -- the lowest number below n that has p, and n where there is none
 unfoldable pub first : (ℕ → Bool) → ℕ → ℕ
 first p zero = zero
-first p (suc n) = whether (p zero) zero (suc (first (λ i. p (suc i)) n))
+first p (suc n) = pick (p zero) zero (suc (first (λ i. p (suc i)) n))
 
 -- the rows g i, for each i below n that has p, in rising order
 unfoldable pub joined : (ℕ → Bool) → (ℕ → List ℕ) → ℕ → List ℕ
 joined p g zero = []
-joined p g (suc n) = joined p g n ++ whether (p n) (g n) []
+joined p g (suc n) = joined p g n ++ pick (p n) (g n) []
 
 -- a row of one
 unfoldable pub single : (ℕ → ℕ) → ℕ → List ℕ

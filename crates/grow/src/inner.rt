@@ -1,6 +1,7 @@
 // What each kind of record adds to the table.
 ghost use Rattle.std.specs.Prelude.{◌≡◌, ◌≤◌, ◌<◌};
-ghost use Rattle.grow.specs.Grow.{with_test, filled, with_fault, with_response};
+ghost use Rattle.folds.specs.Fold.{every};
+ghost use Rattle.grow.specs.Grow.{with_test, filled, with_fault, with_response, differs};
 
 use table::Table;
 
@@ -55,4 +56,36 @@ pub fn with_response(table: Table, test: usize, fault: usize, output: u8) -> Tab
     let mut next = table;
     next.cells[at] = output;
     next
+}
+
+// Whether fault f has another line or another stuck value.
+fn differs<'a>(lines: &'a [u8; 60], stuck: &'a [u8; 60], line: u8, value: u8, f: usize) -> bool
+    requires { f < 60 }
+    ensures { result ≡ differs lines.now stuck.now line value f }
+{
+    if lines[f] != line {
+        return true;
+    }
+    stuck[f] != value
+}
+
+// Whether no fault so far has the line and the stuck value.
+pub fn is_new<'a>(
+    lines: &'a [u8; 60],
+    stuck: &'a [u8; 60],
+    faults: usize,
+    line: u8,
+    value: u8,
+) -> bool
+    requires { faults ≤ 60 }
+    ensures { result ≡ every (differs lines.now stuck.now line value) faults }
+{
+    let mut f = 0;
+    while f < faults {
+        if !differs(lines, stuck, line, value, f) {
+            return false;
+        }
+        f += 1;
+    }
+    true
 }

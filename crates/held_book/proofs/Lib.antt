@@ -1,4 +1,3 @@
 pub mod Walks
-pub mod Lends
 pub mod Onwards
 pub mod Pins

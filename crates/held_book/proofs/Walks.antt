@@ -1,13 +1,10 @@
--- What the walks of functions over a reader share: the reader's type, what a walk names of its code, what a call gives, and
--- how a walk is the function's theorem. Assumes nothing.
+-- What the walks of functions over a reader share: the reader's type, what a call gives, and how a walk is the function's
+-- theorem. Assumes nothing.
 use mathlib.Core.List.{List, [], ◌∷◌}
-use mathlib.Core.Path.{subst}
-use Prim.Native.Nat.{ℕ, zero, suc}
-use mir.Syntax.{named, Ty, Local, local, Body, skip, seq, assign, block, loop, cond, switch, exit, return, call, Fn}
+use mir.Syntax.{Fn}
 use mir.Val.{Val}
 use denote.Laws.{Are, Is, Ises, Spells, Tellss, shows, valss}
 use denote.RattleType.{RattleType, flat}
-use denote.Ref.{NamedLft}
 use denote.Signature.{named_lft, type_at, types_at}
 use denote.Steps.{heard, peeks}
 use denote.Struct.Declared.{Declared}
@@ -17,10 +14,8 @@ use denote.Triple.Spec.{triple_of}
 use denote.Triple.Table.{entered}
 use denote.Triple.Walked.{AllGo, Stays, walk_Meets, walk_of, walked}
 use denote.Triple.Statement.{Triple}
-use Rattle.records.specs.declared.Stepped.{Stepped}
 use seplogic.Ra.Ura.{Ura}
 use base.Logic.{SProp, ent, sep, via, snd∗, ex_e, id⊢}
-use base.Fml.{Lft}
 use types.Logic.{Logic, sem}
 use prog.Model.{Model}
 use prog.Routine.{Name, Env}
@@ -33,8 +28,6 @@ use sound.WpLaws.{FmC, WpFn-mono, fm_of}
 use denote.Struct.Laws as LL
 use Rattle.held_book.specs.contracts.Reader as T
 use Rattle.held_book.proofs.Reader.TheLaws as T'
-use Rattle.records.specs.contracts.Stepped as S
-use Rattle.records.proofs.Stepped.TheLaws as S'
 
 -- the reader's type, over a signature's lifetimes
 abbrev pub B : Lfts 1 → RattleType
@@ -45,40 +38,6 @@ D κs = T.the_type (named_lft 1 0 tt κs)
 
 abbrev pub L : (κs : Lfts 1) → LL.Laws (D κs)
 L κs = T'.the_laws (named_lft 1 0 tt κs)
-
--- the reader's type behind the reference that `next` takes, over the book's lifetime
-abbrev pub α : Lft → NamedLft
-α κ = record { mir = named 1; lft = κ }
-
-abbrev pub R : Lft → RattleType
-R κ = T.the_row (α κ)
-
--- a step that a call gave, at its own machine value
-pub step_spelt : (t : Stepped) (u : Val) → Is S.the_row t (u ∷ []) → Is S.the_row t (LL.vals S.the_type S'.the_laws t)
-step_spelt t u is = subst (Is S.the_row t) (LL.tells S.the_type S'.the_laws t (u ∷ []) is) is
-
--- a function's locals where they were put: what a walk names after a branch
-abbrev pub env : List Local → List ℕ → List (Ty × ℕ)
-env [] ns = []
-env (l ∷ ls) [] = []
-env (local τ h ∷ ls) (n ∷ ns) = (τ, n) ∷ env ls ns
-
--- a sequence without its first n statements: what is left of a loop's turn after a branch
-abbrev rest_of : Body → Body
-rest_of skip = skip
-rest_of (seq a b) = b
-rest_of (assign p r) = skip
-rest_of (block b) = skip
-rest_of (loop b) = skip
-rest_of (cond c a b) = skip
-rest_of (switch c ar) = skip
-rest_of (exit n) = skip
-rest_of return = skip
-rest_of (call f xs p) = skip
-
-abbrev pub past : ℕ → Body → Body
-past zero b = b
-past (suc n) b = past n (rest_of b)
 
 -- what a call gives at the machine value v: a result of which the `ensures` says φ, what it owns, and the tokens
 pub answers : {M : Type 1} {𝓤 : Ura M} {𝓛 : Logic 𝓤} {K : Type 0} {Γ : List (Item 𝓤)} {G : Goal 𝓤 𝓛.H} → K → Soaks G

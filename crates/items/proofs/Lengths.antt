@@ -6,12 +6,11 @@ use Prim.Native.Nat.{ℕ, zero, suc, ◌+◌, ◌*◌, ◌^◌, ◌≤◌, ◌<�
 use native.Mathlib.Omega.{arith}
 use lib.Dec.{eqb}
 use lib.ListN.{get_or, length, length-append}
-use Rattle.folds.proofs.Joined.{joined-none, joined-most}
-use Rattle.folds.proofs.Lengths.{length_of, rows_more, total_first, total_most, total_once, total_plus, total_zero, when_length}
+use Rattle.folds.proofs.Joined.{joined-none}
+use Rattle.folds.proofs.Lengths.{length_of, rows_more, rows_most, total_first, total_most, total_once, total_plus, total_zero, when_length}
 use Rattle.folds.proofs.Total.{total_more}
-use Rattle.folds.specs.Fold.{count, joined, whether, total}
-use Rattle.items.specs.Items.{list_text, member_text, none_word, spaced, tests_text}
-use Rattle.items.specs.Inner.{in_class, members_text, output_item, signature_text}
+use Rattle.folds.specs.Fold.{count, joined, pick, total}
+use Rattle.items.specs.Items.{in_class, list_text, member_text, members_text, none_word, output_item, signature_text, spaced, tests_text}
 use Rattle.sets.specs.Sets.{has}
 use Rattle.text.proofs.Decimal.{decimal_length}
 
@@ -25,9 +24,9 @@ list_most : (p : ℕ → Bool) (item : ℕ → List ℕ) (k m n : ℕ) → 5 ≤
 unfolding list_text
 list_most p item k m n h l each = go (eqb (count p n) 0)
   where
-    go : (b : Bool) → length (whether b none_word (joined p item n)) ≤ m
+    go : (b : Bool) → length (pick b none_word (joined p item n)) ≤ m
     go true = omega arith
-    go false = omega (arith, joined-most p item k n each)
+    go false = omega (arith, rows_most p item k n each)
 
 pub tests_most : (s tests : ℕ) → tests ≤ 24 → length (tests_text s tests) ≤ 72
 unfolding tests_text

@@ -7,11 +7,9 @@ use native.Mathlib.Omega.{arith}
 use borrow.Author.Tests.{eq-eqb, ne_eqb}
 use lib.ListN.{get_or}
 use Rattle.folds.specs.Fold.{count, joined}
-use Rattle.items.specs.Items.{good_word, list_text, member_text, none_word, spaced}
-use Rattle.items.specs.Inner.{in_class, output_item}
+use Rattle.items.specs.Items.{good_word, in_class, list_text, member_text, none_word, output_item, spaced}
 use Rattle.text.proofs.Writes.{writes_then}
-use Rattle.text.specs.Decimal.{decimal_of}
-use Rattle.text.specs.Writes.{Writes}
+use Rattle.text.specs.Text.{Writes, decimal_of}
 
 pub spaced_done : (at n r r' : ℕ) (b b' b'' : List ℕ) → Writes at (32 ∷ []) b r b' → Writes r (decimal_of n) b' r' b'' → Writes at (spaced n) b r' b''
 unfolding spaced

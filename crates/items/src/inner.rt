@@ -1,11 +1,17 @@
 // The items of a line, each with a space before it.
 ghost use Rattle.std.specs.Prelude.{◌≤◌, ◌<◌, ◌≡◌};
 ghost use Rattle.folds.specs.Fold.{joined};
-ghost use Rattle.items.specs.Items.{member_text, none_word, spaced, tests_text};
-ghost use Rattle.items.specs.Inner.{in_class, members_text, output_item, signature_text};
+ghost use Rattle.items.specs.Items.{in_class, member_text, members_text, none_word, output_item, signature_text, spaced, tests_text};
 ghost use Rattle.sets.specs.Sets.{has};
 ghost use Rattle.table.specs.Table.{cell_at};
-ghost use Rattle.text.specs.Writes.{Writes};
+ghost use Rattle.text.specs.Text.{Writes};
+
+// A byte as a number.
+pub fn wide(byte: u8) -> usize
+    ensures { result ≡ byte }
+{
+    byte as usize
+}
 
 pub fn spaced(buf: &mut [u8], at: usize, n: usize) -> usize
     ensures { Writes at (spaced n) buf.old result buf.new }
@@ -41,7 +47,7 @@ pub fn tests(buf: &mut [u8], at: usize, set: u32, tests: usize) -> usize
     requires { tests ≤ 24 }
     ensures { Writes at (tests_text set tests) buf.old result buf.new }
 {
-    if sets::inner::size(set as u64, tests) == 0 {
+    if sets::inner::size(set, tests) == 0 {
         return none(buf, at);
     }
     some_tests(buf, at, set, tests)
@@ -51,7 +57,7 @@ fn output(buf: &mut [u8], at: usize, cells: &[u8; 1464], c: usize, t: usize) -> 
     requires { (c < 61) × (t < 24) }
     ensures { Writes at (output_item (cell_at cells.now) c t) buf.old result buf.new }
 {
-    spaced(buf, at, table::inner::wide(table::inner::cell(cells, t, c)))
+    spaced(buf, at, wide(table::inner::cell(cells, t, c)))
 }
 
 fn outputs(buf: &mut [u8], at: usize, cells: &[u8; 1464], tests: usize, set: u32, c: usize) -> usize
@@ -81,7 +87,7 @@ pub fn signature(
     requires { (tests ≤ 24) × (c < 61) }
     ensures { Writes at (signature_text (cell_at cells.now) tests set c) buf.old result buf.new }
 {
-    if sets::inner::size(set as u64, tests) == 0 {
+    if sets::inner::size(set, tests) == 0 {
         return none(buf, at);
     }
     outputs(buf, at, cells, tests, set, c)
@@ -101,9 +107,9 @@ fn member<'a>(
         return text::inner::word(buf, at, b" good");
     }
     let f = c - 1;
-    let slash = spaced(buf, at, table::inner::wide(lines[f]));
+    let slash = spaced(buf, at, wide(lines[f]));
     let value = text::inner::put(buf, slash, b'/');
-    text::inner::decimal(buf, value, table::inner::wide(stuck[f]))
+    text::inner::decimal(buf, value, wide(stuck[f]))
 }
 
 // Whether column c is of class k.
@@ -111,7 +117,7 @@ pub fn in_class(of: &[u8; 61], k: usize, c: usize) -> bool
     requires { c < 61 }
     ensures { result ≡ in_class of.now k c }
 {
-    table::inner::wide(of[c]) == k
+    wide(of[c]) == k
 }
 
 // The members of class k.
@@ -128,12 +134,13 @@ pub fn members<'a>(
     ensures { Writes at (members_text lines.now stuck.now of.now columns k) buf.old result buf.new }
 {
     let mut next = at;
-    let mut c = 0;
-    while c < columns {
+    let mut left = columns;
+    while 0 < left {
+        let c = columns - left;
         if in_class(of, k, c) {
             next = member(buf, next, lines, stuck, c);
         }
-        c += 1;
+        left -= 1;
     }
     next
 }

@@ -1,19 +1,29 @@
 -- Calls that write their answer to the front of a lent buffer. The sentences are document 01's.
 -- Assumes nothing.
-use Rattle.std.specs.Prelude.{List, [], ◌∷◌, ◌++◌, ◌≡◌, ℕ, ◌≤◌, length}
-use Rattle.folds.specs.Fold.{onto}
-use Rattle.asks.specs.Asks.{Ask, asks, Numbered}
-use Rattle.table.specs.Answers.{accept, written_number, written_count}
-use Rattle.table.specs.declared.Refusal.TheVariants.{BufferShort}
+use Rattle.std.specs.Prelude.{List, ◌≡◌, ℕ, eqb, leb, length}
+use Rattle.folds.specs.Fold.{pick, onto}
+use Rattle.sets.specs.Sets.{within}
+use Rattle.table.specs.Answers.{written_number, written_count}
+use Rattle.table.specs.Test.{well_formed}
+use Rattle.table.specs.declared.Table.{Table}
 use Rattle.table.specs.declared.Written.{Written}
 
--- "24 | the lent buffer is shorter than the answer", after what is asked earlier
-abbrev pub room_asks : List Ask → List ℕ → List ℕ → List Ask
-room_asks earlier answer entry = earlier ++ (asks BufferShort (length answer ≤ length entry) ∷ [])
+-- of an accepted call a, of a refused one b
+abbrev pub accept : {A : Type 0} → ℕ → A → A → A
+accept number a b = pick (eqb number 0) a b
 
--- what the call answers, and what it leaves of a buffer that held `entry`; `earlier` is what it asks before it looks at the buffer
-pub record WritesOnto (earlier : List Ask) (answer entry : List ℕ) (r : Written) (exit : List ℕ) : Type 0 where
-  pub number : Numbered (room_asks earlier answer entry) (written_number r)
+-- "20 | a call's table is not well formed", "21 | a given set holds a test that the table lacks", in that order; 0 where neither is so
+unfoldable pub set_number : Table → ℕ → ℕ
+set_number tb s = pick (well_formed tb) (pick (within s tb.tests) 0 21) 20
+
+-- "24 | the lent buffer is shorter than the answer", where nothing refuses the call earlier
+unfoldable pub room_number : ℕ → List ℕ → List ℕ → ℕ
+room_number earlier answer entry = accept earlier (pick (leb (length answer) (length entry)) 0 24) earlier
+
+-- what the call answers, and what it leaves of a buffer that held `entry`; `earlier` is the number by which it is refused
+-- before the buffer is looked at, or 0
+pub record WritesOnto (earlier : ℕ) (answer entry : List ℕ) (r : Written) (exit : List ℕ) : Type 0 where
+  pub number : written_number r ≡ room_number earlier answer entry
   -- "A refused call returns the number with the empty set, list or count 0, and its buffers keep their bytes."
   pub count : written_count r ≡ accept (written_number r) (length answer) 0
   -- "A longer buffer is no refusal: bytes past the answer stay."

@@ -1,22 +1,21 @@
 -- How long the lines are at most. Assumes nothing.
 use mathlib.Core.List.{List}
+use mathlib.Core.Path.{refl}
 use Prim.Native.Nat.{ℕ, ◌+◌, ◌≤◌, ◌<◌}
 use native.Mathlib.Omega.{arith}
 use lib.ListN.{length, length-append}
 use Rattle.table.proofs.Stored.{cell_byte}
-use Rattle.classes.specs.Classes.{class_numbers}
+use Rattle.classes.proofs.Meaning.{count-given}
+use Rattle.classes.specs.Classes.{classes_of}
 use Rattle.folds.specs.Fold.{always, count, first}
 use Rattle.folds.proofs.Lengths.{length_of, rows_total, total_most}
 use Rattle.items.proofs.Lengths.{members_length, members_most, signature_most, spaced_most, tests_most}
-use Rattle.items.specs.Inner.{in_class}
-use Rattle.lines.specs.Classed.{class_tail, line_by, lines_by}
-use Rattle.lines.specs.Text.{aside_word, class_head, detect_word, diagnose_word, essential_word, refused_text, set_line, set_lines, sizes_line, table_text}
-use Rattle.lines.proofs.Said.{classes-said}
+use Rattle.items.specs.Items.{in_class}
+use Rattle.lines.specs.Text.{aside_word, class_head, class_line, class_lines, class_tail, detect_word, diagnose_word, essential_word, refused_text, set_line, set_lines, sizes_line, table_text}
+use Rattle.table.proofs.Formed.{tested}
 use Rattle.table.specs.Table.{columns, output_at}
-use Rattle.table.specs.WellFormed.{WellFormed}
-use Rattle.table.specs.OfType.{OfType}
+use Rattle.table.specs.WellFormed.{OfType, WellFormed}
 use Rattle.table.specs.declared.Table.{Table}
-use Rattle.terms.specs.Terms.{class_count}
 use Rattle.terms_laws.proofs.Classes.{few_classes}
 
 -- 30 for the sizes, 320 for the four sets, 109 for each of 61 classes without its members, 365 for all members
@@ -26,20 +25,20 @@ longest = 7364
 module _ (tb : Table) (w : WellFormed tb) (o : OfType tb) where
   -- ---- lines
 
-  class-most : (of : List ℕ) (s k : ℕ) → k < 61 → length (line_by tb of s k) ≤ 109 + members_length tb.lines tb.stuck of (columns tb) k
-  unfolding line_by class_head class_tail
+  class-most : (of : List ℕ) (s k : ℕ) → k < 61 → length (class_line tb of s k) ≤ 109 + members_length tb.lines tb.stuck of (columns tb) k
+  unfolding class_line class_head class_tail
   class-most of s k h = simp length-append (omega (
     arith,
     spaced_most 1 k (omega arith),
     signature_most (output_at tb) tb.tests s (first (in_class of k) (columns tb)) w.tests_fit (cell_byte tb.cells o.cells_bytes),
   ))
 
-  classes-most : (of : List ℕ) (s n : ℕ) → n ≤ 61 → length (lines_by tb of s n) ≤ 7014
-  unfolding lines_by length_of
+  classes-most : (of : List ℕ) (s n : ℕ) → n ≤ 61 → length (class_lines tb of s n) ≤ 7014
+  unfolding class_lines length_of
   classes-most of s n h = omega (
     arith,
-    rows_total always (line_by tb of s) n,
-    total_most (length_of (line_by tb of s)) (members_length tb.lines tb.stuck of (columns tb)) 109 n (λ k l. class-most of s k (omega arith)),
+    rows_total always (class_line tb of s) n,
+    total_most (length_of (class_line tb of s)) (members_length tb.lines tb.stuck of (columns tb)) 109 n (λ k l. class-most of s k (omega arith)),
     members_most tb.lines tb.stuck of tb.faults n w.faults_fit o.lines_bytes w.stuck_fit,
   )
 
@@ -66,14 +65,17 @@ module _ (tb : Table) (w : WellFormed tb) (o : OfType tb) where
     spaced_most 1 n (omega arith),
   ))
 
+  few : (classes_of tb).count ≤ 61
+  few = omega (arith, count-given tb (tested tb w) (classes_of tb) refl, few_classes tb w)
+
   pub table-most : (aside essential detect diagnose : ℕ) → length (table_text tb aside essential detect diagnose) ≤ longest
   unfolding table_text
-  table-most aside essential detect diagnose = rw (← classes-said tb diagnose (class_count tb)) (simp length-append (omega (
+  table-most aside essential detect diagnose = simp length-append (omega (
     arith,
-    sizes-most (class_count tb) (few_classes tb w),
+    sizes-most (classes_of tb).count few,
     sets-most aside essential detect diagnose,
-    classes-most (class_numbers tb) diagnose (class_count tb) (few_classes tb w),
-  )))
+    classes-most (classes_of tb).of diagnose (classes_of tb).count few,
+  ))
 
 -- ---- a refused book
 

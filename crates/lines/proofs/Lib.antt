@@ -1,4 +1,3 @@
-pub mod Numbers
-pub mod Said
 pub mod Pieces
+pub mod Numbers
 pub mod Lengths

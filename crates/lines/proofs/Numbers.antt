@@ -5,26 +5,27 @@ use mathlib.Core.Path.{◌≡◌, ◌∙◌}
 use Prim.Native.Nat.{ℕ, ◌≤◌, ◌<◌}
 use native.Mathlib.Omega.{arith}
 use Rattle.classes.proofs.Meaning.{class-given, count-given}
-use Rattle.classes.specs.Classes.{ClassesAre}
+use Rattle.classes.specs.Classes.{classes_of}
 use Rattle.folds.proofs.Below.{lt_or_ge}
 use Rattle.folds.proofs.Bools.{clash}
 use Rattle.folds.proofs.First.{first_below}
 use Rattle.folds.specs.Fold.{first}
 use Rattle.items.proofs.Pieces.{class_is}
-use Rattle.items.specs.Inner.{in_class}
-use Rattle.lines.specs.Classed.{NoneEmpty}
+use Rattle.items.specs.Items.{in_class}
+use Rattle.lines.specs.Text.{Numbered}
+use Rattle.table.proofs.Formed.{tested}
 use Rattle.table.specs.Table.{columns, output_at}
 use Rattle.table.specs.WellFormed.{WellFormed}
 use Rattle.table.specs.declared.Classes.{Classes}
 use Rattle.table.specs.declared.Table.{Table}
 use Rattle.terms_laws.proofs.Classes.{class-reaches}
 
-pub first_at : (p : ℕ → Bool) (n c : ℕ) → c < n → p c ≡ true → first p n < n
+first_at : (p : ℕ → Bool) (n c : ℕ) → c < n → p c ≡ true → first p n < n
 first_at p n c l h = ⊎_elim (λ (w : c < first p n). clash (p c) h (first_below p n c w)) (λ (w : first p n ≤ c). omega arith) (lt_or_ge c (first p n))
 
-pub none_empty : (tb : Table) (r : Classes) → WellFormed tb → ClassesAre tb r → NoneEmpty tb r.of r.count
-none_empty tb r w g = record {
+pub numbered : (tb : Table) (r : Classes) → WellFormed tb → r ≡ classes_of tb → Numbered tb r.of r.count
+numbered tb r w e = record {
   has = λ k l.
-      let x = class-reaches (output_at tb) tb.tests (columns tb) k (omega (arith, count-given tb w r g)) in
-      first_at (in_class r.of k) (columns tb) x.0 x.1 (class_is r.of k x.0 (class-given tb w r g x.0 x.1 ∙ x.2));
+      let x = class-reaches (output_at tb) tb.tests (columns tb) k (omega (arith, count-given tb (tested tb w) r e)) in
+      first_at (in_class r.of k) (columns tb) x.0 x.1 (class_is r.of k x.0 (class-given tb (tested tb w) r e x.0 x.1 ∙ x.2));
 }

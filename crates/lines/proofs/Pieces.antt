@@ -2,21 +2,16 @@
 use mathlib.Core.List.{List}
 use mathlib.Core.Path.{◌≡◌}
 use Prim.Native.Nat.{ℕ, ◌+◌, ◌-◌, ◌≤◌, ◌<◌}
-use Rattle.classes.specs.Classes.{ClassesAre}
-use Rattle.classes.proofs.Meaning.{count-given, numbers-given}
+use Rattle.classes.specs.Classes.{classes_of}
 use Rattle.folds.specs.Fold.{count, first}
-use Rattle.items.specs.Items.{spaced, tests_text}
-use Rattle.items.specs.Inner.{in_class, members_text, signature_text}
-use Rattle.lines.specs.Classed.{NoneEmpty, class_tail, line_by, lines_by}
-use Rattle.lines.specs.Text.{aside_word, at_word, class_head, class_word, classes_word, colon_word, detect_word, diagnose_word, essential_word, faults_word, newline, refused_text, refused_word, set_line, set_lines, sizes_line, table_text, tests_word}
-use Rattle.lines.proofs.Said.{classes-said}
-use Rattle.terms.specs.Terms.{class_count}
+use Rattle.items.specs.Items.{in_class, members_text, signature_text, spaced, tests_text}
+use Rattle.lines.specs.Text.{Numbered, aside_word, at_word, class_head, class_line, class_lines, class_tail, class_word, classes_word, colon_word, detect_word, diagnose_word, essential_word, faults_word, newline, refused_text, refused_word, set_line, set_lines, sizes_line, table_text, tests_word}
 use Rattle.table.specs.Table.{cell_at, columns}
 use Rattle.table.specs.WellFormed.{WellFormed}
 use Rattle.table.specs.declared.Classes.{Classes}
 use Rattle.table.specs.declared.Table.{Table}
 use Rattle.text.proofs.Writes.{writes_then}
-use Rattle.text.specs.Writes.{Writes}
+use Rattle.text.specs.Text.{Writes}
 
 -- ---- lines
 
@@ -48,14 +43,14 @@ unfolding class_tail
 tail_done tb of k at a b r b₀ b₁ b₂ b₃ w₁ w₂ w₃ = writes_then at a r _ _ b₀ b₁ b₃ w₁ (writes_then a b r _ _ b₁ b₂ b₃ w₂ w₃)
 
 pub class_done : (tb : Table) (of : List ℕ) (s k low at a b r : ℕ) (b₀ b₁ b₂ b₃ : List ℕ) → low ≡ first (in_class of k) (tb.faults + 1)
-    → Writes at (class_head k) b₀ a b₁ → Writes a (signature_text (cell_at tb.cells) tb.tests s low) b₁ b b₂ → Writes b (class_tail tb of k) b₂ r b₃ → Writes at (line_by tb of s k) b₀ r b₃
-unfolding line_by
+    → Writes at (class_head k) b₀ a b₁ → Writes a (signature_text (cell_at tb.cells) tb.tests s low) b₁ b b₂ → Writes b (class_tail tb of k) b₂ r b₃ → Writes at (class_line tb of s k) b₀ r b₃
+unfolding class_line
 class_done tb of s k low at a b r b₀ b₁ b₂ b₃ l w₁ w₂ w₃ =
     let w : Writes a (signature_text (cell_at tb.cells) tb.tests s (first (in_class of k) (tb.faults + 1))) b₁ b b₂ = rw (← l) w₂ in
     writes_then at a r _ _ b₀ b₁ b₃ w₁ (writes_then a b r _ _ b₁ b₂ b₃ w w₃)
 
-pub class_at : (tb : Table) (of : List ℕ) (count k : ℕ) → NoneEmpty tb of count → k < count → first (in_class of k) (columns tb) < columns tb
-class_at tb of count k n l = n.has k l
+pub numbered_at : (tb : Table) (of : List ℕ) (count k : ℕ) → Numbered tb of count → k < count → first (in_class of k) (columns tb) < columns tb
+numbered_at tb of count k n l = n.has k l
 
 pub sets_done : (tests aside essential detect diagnose at a b c r : ℕ) (b₀ b₁ b₂ b₃ b₄ : List ℕ) → Writes at (set_line aside_word aside tests) b₀ a b₁ → Writes a (set_line essential_word essential tests) b₁ b b₂
     → Writes b (set_line detect_word detect tests) b₂ c b₃ → Writes c (set_line diagnose_word diagnose tests) b₃ r b₄ → Writes at (set_lines tests aside essential detect diagnose) b₀ r b₄
@@ -63,12 +58,11 @@ unfolding set_lines
 sets_done tests aside essential detect diagnose at a b c r b₀ b₁ b₂ b₃ b₄ w₁ w₂ w₃ w₄ =
     writes_then at a r _ _ b₀ b₁ b₄ w₁ (writes_then a b r _ _ b₁ b₂ b₄ w₂ (writes_then b c r _ _ b₂ b₃ b₄ w₃ w₄))
 
-pub table_done : (tb : Table) (given : Classes) (aside essential detect diagnose a b r : ℕ) (b₀ b₁ b₂ b₃ : List ℕ) → WellFormed tb → ClassesAre tb given
+pub table_done : (tb : Table) (given : Classes) (aside essential detect diagnose a b r : ℕ) (b₀ b₁ b₂ b₃ : List ℕ) → given ≡ classes_of tb
     → Writes 0 (sizes_line tb.tests tb.faults given.count) b₀ a b₁ → Writes a (set_lines tb.tests aside essential detect diagnose) b₁ b b₂
-    → Writes b (lines_by tb given.of diagnose given.count) b₂ r b₃ → Writes 0 (table_text tb aside essential detect diagnose) b₀ r b₃
+    → Writes b (class_lines tb given.of diagnose given.count) b₂ r b₃ → Writes 0 (table_text tb aside essential detect diagnose) b₀ r b₃
 unfolding table_text
-table_done tb given aside essential detect diagnose a b r b₀ b₁ b₂ b₃ w g w₁ w₂ w₃ =
-    rw (← classes-said tb diagnose (class_count tb), ← count-given tb w given g, ← numbers-given tb w given g) (writes_then 0 a r _ _ b₀ b₁ b₃ w₁ (writes_then a b r _ _ b₁ b₂ b₃ w₂ w₃))
+table_done tb given aside essential detect diagnose a b r b₀ b₁ b₂ b₃ g w₁ w₂ w₃ = rw (← g) (writes_then 0 a r _ _ b₀ b₁ b₃ w₁ (writes_then a b r _ _ b₁ b₂ b₃ w₂ w₃))
 
 pub formed_tests : (tb : Table) → WellFormed tb → tb.tests ≤ 24
 formed_tests tb w = w.tests_fit

@@ -1,11 +1,11 @@
 -- The text that pick prints, as bytes. The sentences are document 01's.
 -- Assumes nothing.
-use Rattle.std.specs.Prelude.{Bool, List, [], ◌∷◌, ◌++◌, ℕ, eqb}
+use Rattle.std.specs.Prelude.{List, [], ◌∷◌, ◌++◌, ℕ, ◌<◌}
+use Rattle.classes.specs.Classes.{classes_of}
 use Rattle.folds.specs.Fold.{always, first, joined}
-use Rattle.items.specs.Items.{member_text, none_word, spaced, tests_text}
-use Rattle.table.specs.Table.{columns}
+use Rattle.items.specs.Items.{in_class, members_text, signature_text, spaced, tests_text}
+use Rattle.table.specs.Table.{output_at, columns}
 use Rattle.table.specs.declared.Table.{Table}
-use Rattle.terms.specs.Terms.{class_count, class_of, signature}
 
 -- ---- words
 
@@ -56,6 +56,10 @@ at_word = 32 ∷ 97 ∷ 116 ∷ []
 abbrev pub newline : List ℕ
 newline = 10 ∷ []
 
+-- each class number below `count` is some column's
+pub record Numbered (tb : Table) (of : List ℕ) (count : ℕ) : Type 0 where
+  pub has : (k : ℕ) → k < count → first (in_class of k) (columns tb) < columns tb
+
 -- ---- lines
 
 -- "sizes"
@@ -70,33 +74,17 @@ set_line word s tests = word ++ (tests_text s tests ++ newline)
 unfoldable pub class_head : ℕ → List ℕ
 class_head k = class_word ++ (spaced k ++ colon_word)
 
--- numbers, each with a space before it
-unfoldable pub spaced_all : List ℕ → List ℕ
-spaced_all [] = []
-spaced_all (x ∷ xs) = spaced x ++ spaced_all xs
+unfoldable pub class_tail : Table → List ℕ → ℕ → List ℕ
+class_tail tb of k = colon_word ++ (members_text tb.lines tb.stuck of (columns tb) k ++ newline)
 
--- "An empty list, an empty signature too, prints "none"."
-unfoldable pub numbers_text : List ℕ → List ℕ
-numbers_text [] = none_word
-numbers_text (x ∷ xs) = spaced_all (x ∷ xs)
+-- "Then each class: its signature under the diagnose choice, and its members": of class k, whose lowest column is the first
+-- that has its number
+unfoldable pub class_line : Table → List ℕ → ℕ → ℕ → List ℕ
+class_line tb of s k =
+    class_head k ++ (signature_text (output_at tb) tb.tests s (first (in_class of k) (columns tb)) ++ class_tail tb of k)
 
--- column c is of class k
-unfoldable pub of_class : Table → ℕ → ℕ → Bool
-of_class tb k c = eqb (class_of tb c) k
-
--- the lowest column of class k, whose signature is that of each of its columns
-abbrev pub lowest_in : Table → ℕ → ℕ
-lowest_in tb k = first (of_class tb k) (columns tb)
-
--- "Then each class: its signature under the diagnose choice, and its members in rising column number"
-unfoldable pub class_line : Table → ℕ → ℕ → List ℕ
-class_line tb s k =
-    class_head k
-    ++ (numbers_text (signature tb s (lowest_in tb k))
-    ++ (colon_word ++ (joined (of_class tb k) (member_text tb.lines tb.stuck) (columns tb) ++ newline)))
-
-unfoldable pub class_lines : Table → ℕ → ℕ → List ℕ
-class_lines tb s n = joined always (class_line tb s) n
+unfoldable pub class_lines : Table → List ℕ → ℕ → ℕ → List ℕ
+class_lines tb of s n = joined always (class_line tb of s) n
 
 unfoldable pub set_lines : ℕ → ℕ → ℕ → ℕ → ℕ → List ℕ
 set_lines tests aside essential detect diagnose =
@@ -108,9 +96,9 @@ set_lines tests aside essential detect diagnose =
 -- the text of a table with its set-aside and essential tests and its two choices
 unfoldable pub table_text : Table → ℕ → ℕ → ℕ → ℕ → List ℕ
 table_text tb aside essential detect diagnose =
-    sizes_line tb.tests tb.faults (class_count tb)
+    sizes_line tb.tests tb.faults (classes_of tb).count
     ++ (set_lines tb.tests aside essential detect diagnose
-    ++ class_lines tb diagnose (class_count tb))
+    ++ class_lines tb (classes_of tb).of diagnose (classes_of tb).count)
 
 -- "A refused book prints one line, "refused 8 at 0", number and place."
 unfoldable pub refused_text : ℕ → ℕ → List ℕ

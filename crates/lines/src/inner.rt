@@ -1,12 +1,11 @@
 // The lines of the text.
 ghost use Rattle.std.specs.Prelude.{◌≤◌, ◌<◌, ◌≡◌};
 ghost use Rattle.folds.specs.Fold.{first};
-ghost use Rattle.items.specs.Inner.{in_class};
-ghost use Rattle.lines.specs.Classed.{NoneEmpty, class_tail, line_by, lines_by};
-ghost use Rattle.lines.specs.Text.{class_head, refused_text, set_line, set_lines, sizes_line, table_text};
+ghost use Rattle.items.specs.Items.{in_class};
+ghost use Rattle.lines.specs.Text.{Numbered, class_head, class_line, class_lines, class_tail, refused_text, set_line, set_lines, sizes_line, table_text};
 ghost use Rattle.table.specs.Table.{columns};
 ghost use Rattle.table.specs.WellFormed.{WellFormed};
-ghost use Rattle.text.specs.Writes.{Writes};
+ghost use Rattle.text.specs.Text.{Writes};
 
 use table::Table;
 
@@ -78,7 +77,7 @@ fn class_tail(buf: &mut [u8], at: usize, table: Table, of: [u8; 61], k: usize) -
 // Class k: its signature under a set, and its members.
 fn class(buf: &mut [u8], at: usize, table: Table, of: [u8; 61], set: u32, k: usize) -> usize
     requires { (table.tests ≤ 24) × (table.faults ≤ 60) × (first (in_class of k) (columns table) < columns table) }
-    ensures { Writes at (line_by table of set k) buf.old result buf.new }
+    ensures { Writes at (class_line table of set k) buf.old result buf.new }
 {
     let tests = table.tests;
     let lowest = lowest_in(&of, table.faults + 1, k);
@@ -88,8 +87,8 @@ fn class(buf: &mut [u8], at: usize, table: Table, of: [u8; 61], set: u32, k: usi
 }
 
 fn classes(buf: &mut [u8], at: usize, table: Table, of: [u8; 61], count: usize, set: u32) -> usize
-    requires { (table.tests ≤ 24) × (table.faults ≤ 60) × NoneEmpty table of count }
-    ensures { Writes at (lines_by table of set count) buf.old result buf.new }
+    requires { (table.tests ≤ 24) × (table.faults ≤ 60) × Numbered table of count }
+    ensures { Writes at (class_lines table of set count) buf.old result buf.new }
 {
     let mut next = at;
     let mut i = 0;

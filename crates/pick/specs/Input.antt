@@ -4,6 +4,6 @@ use Rattle.pick.specs.declared.Input.{Input}
 use Rattle.pick.specs.declared.Input.TheVariants.{Bytes, Failed}
 
 -- no more bytes than the buffer has
-abbrev pub FitsBuffer : Input → List ℕ → Type 0
-FitsBuffer (Bytes n) buf = n ≤ length buf
-FitsBuffer Failed buf = Unit {0}
+abbrev pub Holds : Input → List ℕ → Type 0
+Holds (Bytes n) buf = n ≤ length buf
+Holds Failed buf = Unit {0}

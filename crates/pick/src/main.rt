@@ -1,5 +1,5 @@
 // Reads a fault book from standard input and prints what it holds.
-ghost use Rattle.pick.specs.Input.{FitsBuffer};
+ghost use Rattle.pick.specs.Input.{Holds};
 
 use libc::{STDIN_FILENO, STDOUT_FILENO};
 use table::Written;
@@ -13,7 +13,7 @@ enum Input {
 
 // Reads once; no bytes at the end of the input.
 fn read_some(part: &mut [u8]) -> Input
-    ensures { FitsBuffer result part.new }
+    ensures { Holds result part.new }
 {
     let got = libc::read(STDIN_FILENO, part);
     if got < 0 {
@@ -24,7 +24,7 @@ fn read_some(part: &mut [u8]) -> Input
 
 // Reads until the buffer is full or the input ends.
 fn read_all(buf: &mut [u8]) -> Input
-    ensures { FitsBuffer result buf.new }
+    ensures { Holds result buf.new }
 {
     let mut done = 0;
     while done < buf.len() {
@@ -39,11 +39,6 @@ fn read_all(buf: &mut [u8]) -> Input
     Input::Bytes(done)
 }
 
-// Its caller never comes here.
-fn never()
-    requires { ⊥ }
-{}
-
 // Prints the text of a book; no text is too long for the page.
 fn print_report(book: &[u8]) {
     let mut page = [0u8; 7364];
@@ -51,7 +46,7 @@ fn print_report(book: &[u8]) {
         Written::Bytes(n) => {
             io::write_all(STDOUT_FILENO, &page[..n]);
         }
-        Written::Refused(_) => never(),
+        Written::Refused(_) => {}
     }
 }
 

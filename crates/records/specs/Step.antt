@@ -1,18 +1,13 @@
 -- What the record at a place gives, or why it is refused: the refusals of each kind stand as a list, in document 01's order.
 -- The sentences are document 01's.
 -- Assumes nothing.
-use Rattle.std.specs.Prelude.{Bool, false, not, List, [], ◌∷◌, ℕ, ◌+◌, ltb, leb, eqb, length, get_or}
-use Rattle.folds.specs.Fold.{whether, both, either}
-use Rattle.table.specs.Answers.{number_of}
+use Rattle.std.specs.Prelude.{Bool, true, false, not, List, [], ◌∷◌, ℕ, ◌+◌, ◌≤◌, ltb, leb, eqb, length, get_or}
+use Rattle.folds.specs.Fold.{pick, both, either, every}
 use Rattle.table.specs.Table.{empty_table, output_at}
-use Rattle.table.specs.Form.{new_label}
 use Rattle.table.specs.declared.Refusal.{Refusal}
-use Rattle.table.specs.declared.Refusal.TheVariants.{UnknownKind, BodyCut, OutOfPlace, TooMany, StuckValue, SameLabel, NotInBook, NotAfter, RepeatsCorrect, WrongCounts}
+use Rattle.table.specs.declared.Refusal.TheVariants.{UnknownKind, BodyCut, NoEnd, OutOfPlace, TooMany, StuckValue, SameLabel, NotInBook, NotAfter, RepeatsCorrect, WrongCounts, BytesFollow}
 use Rattle.table.specs.declared.Table.{Table}
-use Rattle.checks.specs.Check.{check, Rule, rule, judged, edge_checks, unknown_checks}
-use Rattle.checks.specs.Cursor.{Said, on, done}
-use Rattle.grow.specs.Grow.{with_test, with_fault, with_response}
-use Rattle.records.specs.declared.Outcome.{Outcome}
+use Rattle.grow.specs.Grow.{with_test, with_fault, with_response, differs}
 use Rattle.records.specs.declared.Outcome.TheVariants.{Given, Accepted, Refused}
 use Rattle.records.specs.declared.Record.{Record}
 use Rattle.records.specs.declared.Record.TheVariants.{Test, Fault, Response, End}
@@ -33,8 +28,8 @@ abbrev pub start : SoFar
 start = record { table = empty_table; stage = Tests }
 
 -- "It returns the number, the place of that record's first byte, and the empty table."
-abbrev pub refused_at : ℕ → Refusal → Stepped
-refused_at place why = record { outcome = Refused why; place = place; sofar = start }
+abbrev pub refused_at : Refusal → ℕ → Stepped
+refused_at why place = record { outcome = Refused why; place = place; sofar = start }
 
 abbrev pub accepted_at : ℕ → SoFar → Stepped
 accepted_at place sofar = record { outcome = Accepted; place = place; sofar = sofar }
@@ -42,12 +37,6 @@ accepted_at place sofar = record { outcome = Accepted; place = place; sofar = so
 -- a record, the next place, and the table and the stage then
 abbrev pub given_at : Record → ℕ → Table → Stage → Stepped
 given_at r next tb stage = record { outcome = Given r; place = next; sofar = record { table = tb; stage = stage } }
-
--- reading goes on after a record, and is done where a step accepts or refuses
-abbrev pub said_by : Outcome → Said
-said_by (Given r) = on
-said_by Accepted = done 0
-said_by (Refused why) = done (number_of why)
 
 -- "All tests come first, then faults, then responses, then one end"
 abbrev pub rank_of : Stage → ℕ
@@ -62,6 +51,35 @@ not_after Tests f t = false
 not_after Faults f t = false
 not_after (Responses fault test) f t = either (ltb f fault) (both (eqb f fault) (leb t test))
 not_after Ended f t = false
+
+-- the counts are within the sizes
+pub record CountsFit (sofar : SoFar) : Type 0 where
+  pub tests : sofar.table.tests ≤ 24
+  pub faults : sofar.table.faults ≤ 60
+
+-- a refusal, and whether its condition holds
+pub record Check : Type 0 where
+  pub why : Refusal
+  pub holds : Bool
+
+abbrev pub check : Refusal → Bool → Check
+check why holds = record { why = why; holds = holds }
+
+-- what is checked, in order, and what is given where no condition holds
+pub record Rule : Type 0 where
+  pub checks : List Check
+  pub gives : Stepped
+
+abbrev pub rule : List Check → Stepped → Rule
+rule checks gives = record { checks = checks; gives = gives }
+
+-- "Within a record the order is that of this list.": the first check that holds refuses
+unfoldable pub first_of : List Check → ℕ → Stepped → Stepped
+first_of [] place gives = gives
+first_of (k ∷ ks) place gives = pick k.holds (refused_at k.why place) (first_of ks place gives)
+
+abbrev pub judged : Rule → ℕ → Stepped
+judged r place = first_of r.checks place r.gives
 
 module _ (book : List ℕ) (place : ℕ) (sofar : SoFar) where
   abbrev tb : Table
@@ -79,7 +97,7 @@ module _ (book : List ℕ) (place : ℕ) (sofar : SoFar) where
   cut n = ltb (length book) (place + n)
 
   -- "54 hex | 1 byte | next test: its correct output"
-  unfoldable pub testRule : Rule Stepped
+  unfoldable pub testRule : Rule
   testRule = rule
       (check BodyCut (cut 2)
       -- "a test after a fault or response"
@@ -90,7 +108,7 @@ module _ (book : List ℕ) (place : ℕ) (sofar : SoFar) where
       (given_at (Test (byte 1)) (place + 2) (with_test tb (byte 1)) Tests)
 
   -- "46 hex | 2 bytes | next fault: line, stuck value"
-  unfoldable pub faultRule : Rule Stepped
+  unfoldable pub faultRule : Rule
   faultRule = rule
       (check BodyCut (cut 3)
       -- "a fault after a response"
@@ -100,12 +118,12 @@ module _ (book : List ℕ) (place : ℕ) (sofar : SoFar) where
       -- "stuck value above 1"
       ∷ check StuckValue (ltb 1 (byte 2))
       -- "same line and value as an earlier fault"
-      ∷ check SameLabel (not (new_label tb.lines tb.stuck tb.faults (byte 1) (byte 2)))
+      ∷ check SameLabel (not (every (differs tb.lines tb.stuck (byte 1) (byte 2)) tb.faults))
       ∷ [])
       (given_at (Fault (byte 1) (byte 2)) (place + 3) (with_fault tb (byte 1) (byte 2)) Faults)
 
   -- "52 hex | 3 bytes | response: test, fault, output"
-  unfoldable pub responseRule : Rule Stepped
+  unfoldable pub responseRule : Rule
   responseRule = rule
       (check BodyCut (cut 4)
       -- "a response names a test or fault that the book lacks"
@@ -119,7 +137,7 @@ module _ (book : List ℕ) (place : ℕ) (sofar : SoFar) where
       (given_at (Response (byte 1) (byte 2) (byte 3)) (place + 4) (with_response tb (byte 1) (byte 2) (byte 3)) (Responses (byte 2) (byte 1)))
 
   -- "45 hex | 2 bytes | end: number of tests, number of faults"
-  unfoldable pub endRule : Rule Stepped
+  unfoldable pub endRule : Rule
   endRule = rule
       (check BodyCut (cut 3)
       -- "the end's counts are not those read"
@@ -129,25 +147,31 @@ module _ (book : List ℕ) (place : ℕ) (sofar : SoFar) where
       (given_at (End (byte 1) (byte 2)) (place + 3) tb Ended)
 
   -- "every other value of the kind byte"
-  unfoldable pub unknownRule : Rule Stepped
-  unknownRule = rule unknown_checks (refused_at place UnknownKind)
+  unfoldable pub unknownRule : Rule
+  unknownRule = rule (check UnknownKind true ∷ []) (refused_at UnknownKind place)
 
   -- at the book's end, or past the end record
-  unfoldable pub edgeRule : Rule Stepped
-  edgeRule = rule (edge_checks (eqb rank 3) place (length book)) (accepted_at place sofar)
+  unfoldable pub edgeRule : Rule
+  edgeRule = rule
+      -- "the book stops at a record's edge with no end record"
+      (check NoEnd (not (eqb rank 3))
+      -- "a byte follows the end"
+      ∷ check BytesFollow (ltb place (length book))
+      ∷ [])
+      (accepted_at place sofar)
 
   -- by the kind byte
-  unfoldable pub kindRule : ℕ → Rule Stepped
+  unfoldable pub kindRule : ℕ → Rule
   kindRule kind =
-      whether (eqb kind 0x54) testRule
-      (whether (eqb kind 0x46) faultRule
-      (whether (eqb kind 0x52) responseRule
-      (whether (eqb kind 0x45) endRule
+      pick (eqb kind 0x54) testRule
+      (pick (eqb kind 0x46) faultRule
+      (pick (eqb kind 0x52) responseRule
+      (pick (eqb kind 0x45) endRule
       unknownRule)))
 
-  unfoldable pub ruleAt : Rule Stepped
-  ruleAt = whether (either (leb (length book) place) (eqb rank 3)) edgeRule (kindRule (get_or book place 0))
+  unfoldable pub ruleAt : Rule
+  ruleAt = pick (either (leb (length book) place) (eqb rank 3)) edgeRule (kindRule (get_or book place 0))
 
   -- the step of the cursor
   unfoldable pub stepAt : Stepped
-  stepAt = judged (refused_at place) ruleAt
+  stepAt = judged ruleAt place

@@ -1,7 +1,6 @@
 // One step of the cursor, and a refusal of it.
 ghost use Rattle.std.specs.Prelude.{◌≡◌};
-ghost use Rattle.records.specs.Step.{refused_at, start, stepAt};
-ghost use Rattle.records.specs.Counts.{CountsFit};
+ghost use Rattle.records.specs.Step.{CountsFit, refused_at, start, stepAt};
 
 use crate::{Outcome, SoFar, Stage, Stepped};
 use table::Refusal;
@@ -17,13 +16,13 @@ pub fn begin() -> SoFar
     }
 }
 
-pub fn refuse(why: Refusal, place: usize) -> Stepped
-    ensures { result ≡ refused_at place why }
+pub fn refuse(why: Refusal, at: usize) -> Stepped
+    ensures { result ≡ refused_at why at }
 {
     let sofar = begin();
     Stepped {
         outcome: Outcome::Refused(why),
-        place,
+        place: at,
         sofar,
     }
 }

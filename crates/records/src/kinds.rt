@@ -1,8 +1,6 @@
 // What each kind of record gives, or why it is refused.
 ghost use Rattle.std.specs.Prelude.{◌≡◌, ◌<◌, length};
-ghost use Rattle.checks.specs.Check.{judged};
-ghost use Rattle.records.specs.Step.{rank_of, not_after, refused_at, given_at, edgeRule, testRule, faultRule, responseRule, endRule};
-ghost use Rattle.records.specs.Counts.{CountsFit};
+ghost use Rattle.records.specs.Step.{rank_of, not_after, given_at, CountsFit, judged, edgeRule, testRule, faultRule, responseRule, endRule};
 
 use crate::{Outcome, Record, SoFar, Stage, Stepped};
 use table::{Refusal, Table};
@@ -31,7 +29,7 @@ pub fn rank(stage: Stage) -> usize
 
 // The book stops at a record's edge, or its end record has been read.
 pub fn at_edge(book: &[u8], place: usize, sofar: SoFar) -> Stepped
-    ensures { result ≡ judged (refused_at place) (edgeRule book.now place sofar) }
+    ensures { result ≡ judged (edgeRule book.now place sofar) place }
 {
     let stage = sofar.stage;
     if rank(stage) != 3 {
@@ -49,7 +47,7 @@ pub fn at_edge(book: &[u8], place: usize, sofar: SoFar) -> Stepped
 
 pub fn test_record(book: &[u8], place: usize, sofar: SoFar) -> Stepped
     requires { (place < length book.now) × CountsFit sofar }
-    ensures { result ≡ judged (refused_at place) (testRule book.now place sofar) }
+    ensures { result ≡ judged (testRule book.now place sofar) place }
 {
     if book.len() < place + 2 {
         return crate::inner::refuse(Refusal::BodyCut, place);
@@ -69,7 +67,7 @@ pub fn test_record(book: &[u8], place: usize, sofar: SoFar) -> Stepped
 
 pub fn fault_record(book: &[u8], place: usize, sofar: SoFar) -> Stepped
     requires { (place < length book.now) × CountsFit sofar }
-    ensures { result ≡ judged (refused_at place) (faultRule book.now place sofar) }
+    ensures { result ≡ judged (faultRule book.now place sofar) place }
 {
     if book.len() < place + 3 {
         return crate::inner::refuse(Refusal::BodyCut, place);
@@ -87,7 +85,7 @@ pub fn fault_record(book: &[u8], place: usize, sofar: SoFar) -> Stepped
     if 1 < stuck {
         return crate::inner::refuse(Refusal::StuckValue, place);
     }
-    if !table::inner::new_label(&table.lines, &table.stuck, table.faults, line, stuck) {
+    if !grow::inner::is_new(&table.lines, &table.stuck, table.faults, line, stuck) {
         return crate::inner::refuse(Refusal::SameLabel, place);
     }
     let next = grow::inner::with_fault(table, line, stuck);
@@ -116,7 +114,7 @@ fn not_after(stage: Stage, fault: usize, test: usize) -> bool
 
 pub fn response_record(book: &[u8], place: usize, sofar: SoFar) -> Stepped
     requires { (place < length book.now) × CountsFit sofar }
-    ensures { result ≡ judged (refused_at place) (responseRule book.now place sofar) }
+    ensures { result ≡ judged (responseRule book.now place sofar) place }
 {
     if book.len() < place + 4 {
         return crate::inner::refuse(Refusal::BodyCut, place);
@@ -151,7 +149,7 @@ pub fn response_record(book: &[u8], place: usize, sofar: SoFar) -> Stepped
 
 pub fn end_record(book: &[u8], place: usize, sofar: SoFar) -> Stepped
     requires { (place < length book.now) × CountsFit sofar }
-    ensures { result ≡ judged (refused_at place) (endRule book.now place sofar) }
+    ensures { result ≡ judged (endRule book.now place sofar) place }
 {
     if book.len() < place + 3 {
         return crate::inner::refuse(Refusal::BodyCut, place);

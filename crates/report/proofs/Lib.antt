@@ -1,4 +1,3 @@
 pub mod Bound
 pub mod Page
 pub mod Pins
-pub mod Rows

@@ -1,30 +1,28 @@
 -- What the writers of a whole text have done. Assumes nothing.
-use mathlib.Core.List.{List, []}
+use mathlib.Core.List.{List}
+use mathlib.Core.Logic.{inl, inr}
 use mathlib.Core.Path.{◌≡◌, refl, sym, ap, ◌∙◌}
 use Prim.Native.Nat.{ℕ, ◌≤◌, ◌<◌}
 use native.Mathlib.Omega.{arith}
 use lib.ListN.{get_or, length, length-replicate, replicate, take}
 use mir.Syntax.{w8}
 use mir.Val.{Fits}
-use Rattle.book.specs.Reading.{read_book, ReadingIs}
+use Rattle.book.specs.Reading.{read_book}
 use Rattle.book_laws.proofs.Accepted.{accepted_gave, accepts_whole}
-use Rattle.asks.specs.Asks.{goal_asks}
-use Rattle.asks.proofs.Asked.{goal_accepted}
-use Rattle.asks.proofs.Numbered.{numbered_one}
-use Rattle.choice.specs.ChoiceIs.{choice_asks, ChoiceIs}
-use Rattle.choice.proofs.Cap.{cap_accepted}
-use Rattle.cover.specs.Gives.{AsideTest, Exactly, Gives}
+use Rattle.sets.proofs.Weight.{size_most}
+use Rattle.choice.specs.Answer.{ChoiceIs}
+use Rattle.cover.specs.Answer.{AsideTest, Exactly, Gives}
 use Rattle.folds.proofs.Onto.{onto_front}
 use Rattle.lent.proofs.Lent.{room-enough, room-short}
 use Rattle.lines.proofs.Lengths.{longest}
 use Rattle.report.proofs.Bound.{text_most}
-use Rattle.report.specs.Report.{IsTableText, IsText, ReportIs}
-use Rattle.report.specs.Page.{Paged}
+use Rattle.report.specs.Answer.{IsTableText, IsText, Paged, ReportIs}
 use Rattle.lines.specs.Text.{refused_text, table_text}
-use Rattle.table.specs.Answers.{cap_limit, chosen_set, number_of, verdict_number}
-use Rattle.table.proofs.Answers.{number_bounds}
+use Rattle.sets.proofs.Bits.{below_of_bits}
+use Rattle.table.specs.Answers.{chosen_set, number_of}
 use Rattle.table.specs.WellFormed.{WellFormed}
 use Rattle.table.specs.declared.Chosen.{Chosen}
+use Rattle.table.specs.declared.Chosen.TheVariants.{Tests, Refused}
 use Rattle.table.specs.declared.Goal.{Goal}
 use Rattle.table.specs.declared.Goal.TheVariants.{Detect, Diagnose}
 use Rattle.table.specs.declared.Reading.{Reading}
@@ -33,24 +31,35 @@ use Rattle.table.specs.declared.Refusal.TheVariants.{BufferShort}
 use Rattle.table.specs.declared.Table.{Table}
 use Rattle.terms.specs.Choice.{Choice}
 use Rattle.terms.specs.Terms.{Essential}
+use Rattle.terms_laws.proofs.Choice.{choice_exists}
 use Rattle.text.proofs.Writes.{writes_all, writes_onto}
-use Rattle.text.specs.Writes.{Writes}
+use Rattle.text.specs.Text.{Writes}
 use Rattle.table.specs.declared.Verdict.TheVariants as verdict
 use Rattle.table.specs.declared.Written.TheVariants as written
 
 -- ---- a well-formed table
 
 module _ (tb : Table) (w : WellFormed tb) where
-  given-set : (goal : Goal) (P : ℕ → Type 0) (r : Chosen) → Gives tb goal P r → Exactly P (chosen_set r)
-  given-set goal P r g = g.holds (numbered_one (goal_asks tb goal) _ 0 g.number (goal_accepted tb goal w))
+  given-set : (P : ℕ → Type 0) (r : Chosen) → Gives tb P r → Exactly P (chosen_set r)
+  given-set P (Tests s) g = g.1
+  given-set P (Refused why) g = absurd (g.0 w)
 
-  -- no choice weighs more than the highest cap
-  chosen-set : (goal : Goal) (r : Chosen) → ChoiceIs tb goal cap_limit r → Choice tb goal (chosen_set r)
-  chosen-set goal r c = c.holds (numbered_one (choice_asks tb goal cap_limit) _ 0 c.number (cap_accepted tb w goal))
+  -- no choice has more than 24 tests
+  chosen-set : (goal : Goal) (r : Chosen) → ChoiceIs tb goal 24 r → Choice tb goal (chosen_set r)
+  chosen-set goal (Tests s) c = c.2
+  chosen-set goal (Refused why) (inl (e, ill)) = absurd (ill w)
+  chosen-set goal (Refused why) (inr (inl (e, w', m))) = absurd (omega arith)
+  chosen-set goal (Refused why) (inr (inr (e, w', m, none))) =
+      let x = choice_exists tb goal in
+      absurd (omega (
+        arith,
+        none x.0 x.1.within x.1.reaches,
+        size_most x.0 (below_of_bits 24 x.0 (λ t h. omega (arith, x.1.within t h, w.tests_fit))),
+      ))
 
   pub table-paged : (r₁ r₂ r₃ r₄ : Chosen) (aside essential detect diagnose r : ℕ) (b b' : List ℕ)
-      → Gives tb Diagnose (AsideTest tb Diagnose) r₁ → aside ≡ chosen_set r₁ → Gives tb Diagnose (Essential tb Diagnose) r₂ → essential ≡ chosen_set r₂
-      → ChoiceIs tb Detect cap_limit r₃ → detect ≡ chosen_set r₃ → ChoiceIs tb Diagnose cap_limit r₄ → diagnose ≡ chosen_set r₄
+      → Gives tb (AsideTest tb Diagnose) r₁ → aside ≡ chosen_set r₁ → Gives tb (Essential tb Diagnose) r₂ → essential ≡ chosen_set r₂
+      → ChoiceIs tb Detect 24 r₃ → detect ≡ chosen_set r₃ → ChoiceIs tb Diagnose 24 r₄ → diagnose ≡ chosen_set r₄
       → Writes 0 (table_text tb aside essential detect diagnose) b r b' → Paged (IsTableText tb) b r b'
   table-paged r₁ r₂ r₃ r₄ aside essential detect diagnose r b b' g₁ e₁ g₂ e₂ g₃ e₃ g₄ e₄ v = record {
     text = table_text tb aside essential detect diagnose;
@@ -59,8 +68,8 @@ module _ (tb : Table) (w : WellFormed tb) where
       essential = essential;
       detect = detect;
       diagnose = diagnose;
-      is_aside = rw e₁ (given-set Diagnose (AsideTest tb Diagnose) r₁ g₁);
-      is_essential = rw e₂ (given-set Diagnose (Essential tb Diagnose) r₂ g₂);
+      is_aside = rw e₁ (given-set (AsideTest tb Diagnose) r₁ g₁);
+      is_essential = rw e₂ (given-set (Essential tb Diagnose) r₂ g₂);
       is_detect = rw e₃ (chosen-set Detect r₃ g₃);
       is_diagnose = rw e₄ (chosen-set Diagnose r₄ g₄);
       is_text = refl;
@@ -70,30 +79,16 @@ module _ (tb : Table) (w : WellFormed tb) where
 
 -- ---- a book
 
-module _ (book : List ℕ) (reading : Reading) (w : ReadingIs (read_book book) reading) (r : ℕ) (b b' : List ℕ) where
-  module _ (h : reading.verdict ≡ verdict.Accepted) where
-    number_is : (read_book book).number ≡ 0
-    number_is = sym w.number ∙ ap verdict_number h
+module _ (book : List ℕ) (reading : Reading) (e : reading ≡ read_book book) (r : ℕ) (b b' : List ℕ) where
+  pub page-formed : reading.verdict ≡ verdict.Accepted → WellFormed reading.table
+  page-formed h = rw e (accepted_gave book _ (accepts_whole book (rw e at h))).formed
 
-    pub page-formed : WellFormed reading.table
-    page-formed = rw w.table (accepted_gave book _ (accepts_whole book number_is)).formed
-
-    pub page-accepted : Paged (IsTableText reading.table) b r b' → Paged (IsText book) b r b'
-    page-accepted p = record {
-      text = p.text;
-      is_text = record { accepted = λ _. rw w.table at p.is_text; refused = λ n. absurd (n number_is) };
-      writes = p.writes;
-    }
+  pub page-accepted : reading.verdict ≡ verdict.Accepted → Paged (IsTableText reading.table) b r b' → Paged (IsText book) b r b'
+  page-accepted h p = record { text = p.text; is_text = rw (← e, h) p.is_text; writes = p.writes }
 
   pub page-refused : (why : Refusal) (n m : ℕ) → reading.verdict ≡ verdict.Refused why → n ≡ number_of why → m ≡ n
       → Writes 0 (refused_text m reading.place) b r b' → Paged (IsText book) b r b'
-  page-refused why n m h f g v =
-      let q : (read_book book).number ≡ number_of why = sym w.number ∙ ap verdict_number h in
-      record {
-        text = refused_text m reading.place;
-        is_text = record { accepted = λ z. absurd (omega (arith, (number_bounds why).0)); refused = λ _. rw (q, w.place, g, f) };
-        writes = v;
-      }
+  page-refused why n m h f g v = record { text = refused_text m reading.place; is_text = rw (← e, h, g, f) refl; writes = v }
 
 -- ---- the page holds the whole text; d is what the lent buffer held
 
@@ -114,7 +109,7 @@ module _ (book page : List ℕ) (size : ℕ) (b : (i : ℕ) → Fits w8 (get_or 
   report-short d l = record {
     text = p.text;
     is_text = p.is_text;
-    written = record { number = room-short [] p.text d refl (rw (← size_is) l); count = refl; buffer = refl };
+    written = record { number = sym (room-short p.text d (rw (← size_is) l)); count = refl; buffer = refl };
   }
 
   pub report-written : (r : ℕ) (d d' : List ℕ) → size ≤ length d → Writes 0 (take size page) d r d' → ReportIs book d (written.Bytes r) d'
@@ -125,7 +120,7 @@ module _ (book page : List ℕ) (size : ℕ) (b : (i : ℕ) → Fits w8 (get_or 
         text = p.text;
         is_text = p.is_text;
         written = record {
-          number = room-enough [] p.text d refl room;
+          number = sym (room-enough p.text d room);
           count = writes_all r p.text d d' w room;
           buffer = writes_onto r p.text d d' w room;
         };

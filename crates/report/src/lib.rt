@@ -1,7 +1,6 @@
 // The text that pick prints.
 ghost use Rattle.std.specs.Prelude.{◌≡◌};
-ghost use Rattle.report.specs.Report.{IsTableText, IsText, ReportIs};
-ghost use Rattle.report.specs.Page.{Paged};
+ghost use Rattle.report.specs.Answer.{IsTableText, IsText, Paged, ReportIs};
 ghost use Rattle.table.specs.Answers.{chosen_set};
 ghost use Rattle.table.specs.WellFormed.{WellFormed};
 
@@ -24,8 +23,8 @@ fn table_page(page: &mut [u8], table: Table) -> usize
 {
     let aside = set_of(cover::set_aside(table, Goal::Diagnose));
     let essential = set_of(cover::essential(table, Goal::Diagnose));
-    let detect = set_of(choice::choose(table, Goal::Detect, table::CAP_LIMIT));
-    let diagnose = set_of(choice::choose(table, Goal::Diagnose, table::CAP_LIMIT));
+    let detect = set_of(choice::choose(table, Goal::Detect, 24));
+    let diagnose = set_of(choice::choose(table, Goal::Diagnose, 24));
     lines::inner::table(page, table, aside, essential, detect, diagnose)
 }
 
@@ -38,7 +37,7 @@ fn page_of(book: &[u8], page: &mut [u8]) -> usize
     match verdict {
         Verdict::Accepted => table_page(page, reading.table),
         Verdict::Refused(why) => {
-            let number = table::inner::wide(table::number(why));
+            let number = items::inner::wide(table::number(why));
             lines::inner::refused(page, 0, number, reading.place)
         }
     }

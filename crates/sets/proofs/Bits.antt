@@ -1,19 +1,17 @@
 -- Laws of `bit`: which numbers have which bits. Assumes nothing.
 use mathlib.Core.Path.{◌≡◌, refl, sym, ap, ◌∙◌, subst}
-use mathlib.Core.Bool.{Bool, true, false, not}
+use mathlib.Core.Bool.{true, false}
 use mathlib.Core.Logic.{◌⊎◌, inl, inr, ⊎_elim}
 use Prim.Native.Nat.{ℕ, zero, suc, ◌+◌, ◌-◌, ◌*◌, ◌/◌, ◌%◌, ◌^◌, ◌≤◌, ◌<◌}
 use native.Mathlib.Nat.{mod-lt, lt_of_lt_of_le, div-eq_of_lt, zero-lt-suc, mod-eq_of_lt, one-mul, zero-mul, div-one, mod-one, pow-suc, mul-mod_left}
 use native.Mathlib.Numerals.{one-add}
 use native.Mathlib.Omega.{arith}
-use borrow.Author.Tests.{eq-eqb, ne_eqb, eqb-true, eqb-false, lt-ltb, le-ltb, ltb-true, not-true, not-false}
+use borrow.Author.Tests.{eq-eqb, ne_eqb, eqb-true, eqb-false, lt-ltb, le-ltb, ltb-true}
 use lib.Arith.{bin_ind}
 use lib.Dec.{eqb}
 use lib.Pow.{pow_pos, pow_mono, mod-pow-add, mod-mod-pow, field, high, low, shr-shr, shl-shr, split}
 use Rattle.folds.proofs.Below.{below_cases, lt_or_ge}
-use Rattle.folds.proofs.Bools.{clash}
-use Rattle.sets.specs.Sets.{bit, has, Within}
-use Rattle.sets.specs.Inner.{within}
+use Rattle.sets.specs.Sets.{bit, has, within, Within}
 
 pub bit_lt : (s t : ℕ) → bit s t < 2
 unfolding bit
@@ -209,11 +207,3 @@ within_tells s n e t b = bit_below n s t (within_yes s n e) b
 pub within_of : (s n : ℕ) → Within (λ t. t < n) s → within s n ≡ true
 unfolding within
 within_of s n h = lt-ltb _ _ (below_of_bits n s h)
-
--- the answer of the shift, for what it says of the tests
-module _ (s n : ℕ) (r : Bool) (e : r ≡ within s n) where
-  pub within-said : not r ≡ false → Within (λ t. t < n) s
-  within-said q = within_tells s n (sym e ∙ not-false r q)
-
-  pub within-denied : not r ≡ true → Within (λ t. t < n) s → ⊥
-  within-denied q h = clash r (e ∙ within_of s n h) (not-true r q)

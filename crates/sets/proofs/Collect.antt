@@ -8,32 +8,32 @@ use native.Mathlib.Numerals.{add-one}
 use native.Mathlib.Omega.{arith}
 use lib.Dec.{eqb}
 use lib.Pow.{pow-lt, pow_mono}
-use Rattle.folds.specs.Fold.{whether}
+use Rattle.folds.specs.Fold.{pick}
 use Rattle.folds.proofs.Below.{below_cases}
 use Rattle.sets.specs.Sets.{bit, has}
-use Rattle.sets.specs.Collect.{set_with, set_of}
+use Rattle.sets.specs.Collect.{with_test, set_of}
 use Rattle.sets.proofs.Bits.{bit_high, bit_below, bits_equal, has_no, has_same, top_lt, top_bit, top_below}
 
 -- ---- one test more at the top
 
-pub with_in : (s t : ℕ) → set_with s t true ≡ s + 2 ^ t
-unfolding set_with
+pub with_in : (s t : ℕ) → with_test s t true ≡ s + 2 ^ t
+unfolding with_test
 with_in s t = refl
 
-pub with_out : (s t : ℕ) → set_with s t false ≡ s
-unfolding set_with
+pub with_out : (s t : ℕ) → with_test s t false ≡ s
+unfolding with_test
 with_out s t = add-zero s
 
 module _ (s t : ℕ) (h : s < 2 ^ t) where
-  with-lt : (b : Bool) → set_with s t b < 2 ^ suc t
+  with-lt : (b : Bool) → with_test s t b < 2 ^ suc t
   with-lt true = rw with_in (top_lt s t h)
   with-lt false = rw with_out (omega (arith, pow-suc 2 t))
 
-  with_at : (b : Bool) → bit (set_with s t b) t ≡ whether b 1 0
+  with_at : (b : Bool) → bit (with_test s t b) t ≡ pick b 1 0
   with_at true = rw with_in (top_bit s t h)
   with_at false = rw with_out (bit_high s t t h (omega arith))
 
-  with-below : (b : Bool) (i : ℕ) → i < t → bit (set_with s t b) i ≡ bit s i
+  with-below : (b : Bool) (i : ℕ) → i < t → bit (with_test s t b) i ≡ bit s i
   with-below true i l = rw with_in (top_below s t i h l)
   with-below false i l = rw with_out
 
@@ -53,7 +53,7 @@ module _ (p : ℕ → Bool) where
   set-lt zero = omega arith
   set-lt (suc n) = with-lt (set_of p n) n (set-lt n) (p n)
 
-  set-bit : (n t : ℕ) → t < n → bit (set_of p n) t ≡ whether (p t) 1 0
+  set-bit : (n t : ℕ) → t < n → bit (set_of p n) t ≡ pick (p t) 1 0
   unfolding set_of
   set-bit zero t h = absurd (omega arith)
   set-bit (suc n) t h =
@@ -66,7 +66,7 @@ module _ (p : ℕ → Bool) where
   unfolding has
   set_tells n t h = rw (set-bit n t h) (go (p t))
     where
-      go : (b : Bool) → eqb (whether b 1 0) 1 ≡ b
+      go : (b : Bool) → eqb (pick b 1 0) 1 ≡ b
       go true = refl
       go false = refl
 
@@ -84,7 +84,7 @@ module _ (p : ℕ → Bool) where
   pub set-has : (n t : ℕ) → bit (set_of p n) t ≡ 1 → p t ≡ true
   set-has n t e = go (p t) (sym (set-bit n t (set_below n t e)) ∙ e)
     where
-      go : (b : Bool) → whether {A = ℕ} b 1 0 ≡ 1 → b ≡ true
+      go : (b : Bool) → pick {A = ℕ} b 1 0 ≡ 1 → b ≡ true
       go true q = refl
       go false q = absurd (omega arith)
 
@@ -93,12 +93,12 @@ module _ (p : ℕ → Bool) where
 
   -- with the set of those that lack p it makes up all of them
   pub set-others : (n : ℕ) → set_of (λ i. not (p i)) n + set_of p n + 1 ≡ 2 ^ n
-  unfolding set_of set_with
+  unfolding set_of with_test
   set-others zero = refl
   set-others (suc n) = go (p n) (set-others n)
     where
       go : (b : Bool) → set_of (λ i. not (p i)) n + set_of p n + 1 ≡ 2 ^ n
-          → (set_of (λ i. not (p i)) n + whether (not b) (2 ^ n) 0) + (set_of p n + whether b (2 ^ n) 0) + 1 ≡ 2 ^ suc n
+          → (set_of (λ i. not (p i)) n + pick (not b) (2 ^ n) 0) + (set_of p n + pick b (2 ^ n) 0) + 1 ≡ 2 ^ suc n
       go true e = omega (arith, pow-suc 2 n)
       go false e = omega (arith, pow-suc 2 n)
 
@@ -108,9 +108,9 @@ module _ (p : ℕ → Bool) where
   unfolding set_of
   set-start = refl
 
-  pub set-turn : (i s s' : ℕ) (r : Bool) → s ≡ set_of p i → r ≡ p i → s' ≡ set_with s i r → s' ≡ set_of p (i + 1)
+  pub set-turn : (i s s' : ℕ) (r : Bool) → s ≡ set_of p i → r ≡ p i → s' ≡ with_test s i r → s' ≡ set_of p (i + 1)
   unfolding set_of
-  set-turn i s s' r e q h = rw add-one (h ∙ ap (λ (x : ℕ). set_with x i r) e ∙ ap (set_with (set_of p i) i) q)
+  set-turn i s s' r e q h = rw add-one (h ∙ ap (λ (x : ℕ). with_test x i r) e ∙ ap (with_test (set_of p i) i) q)
 
   pub set-end : (n i s : ℕ) → i ≤ n → n ≤ i → s ≡ set_of p i → s ≡ set_of p n
   set-end n i s h k e = e ∙ ap (set_of p) (le_antisymm h k)

@@ -7,7 +7,7 @@ use Rattle.folds.proofs.Below.{below_cases, lt_or_ge, eq_or_ne}
 use Rattle.sets.specs.Sets.{bit, weight, Before, Precedes}
 use Rattle.sets.proofs.Bits.{bit_cases, bits_equal, some_bit, bit_below}
 use Rattle.sets.proofs.Flip.{pow_bit, pow_bit_other}
-use Rattle.sets.proofs.Weight.{weight-empty, weight-out, weight-alike}
+use Rattle.sets.proofs.Weight.{weight-empty, weight-out}
 
 -- which way the order goes: the set of a lower test alone comes before that of a higher one
 pub lower_first : (t u : ℕ) → t < u → Before (2 ^ t) (2 ^ u)
@@ -47,6 +47,9 @@ module _ (w : ℕ → ℕ) where
   precedes-weight s s' (inl l) = omega arith
   precedes-weight s s' (inr (e, q)) = omega arith
 
+  pub precedes-refl : (s : ℕ) → Precedes w s s
+  precedes-refl s = inr (refl, inl refl)
+
   pub precedes-antisym : (s s' : ℕ) → Precedes w s s' → Precedes w s' s → s ≡ s'
   precedes-antisym s s' (inl l) q = absurd (omega (arith, precedes-weight s' s q))
   precedes-antisym s s' (inr (n, inl e)) q = e
@@ -83,10 +86,6 @@ module _ (w : ℕ → ℕ) where
       (λ (e : s ≡ 0). inr (ap (weight w) (sym e), inl (sym e)))
       (λ (ne : s ≡ 0 → ⊥). let b = some_bit s ne in inl (omega (arith, weight-empty w, weight-out w s b.0 (bit_below 24 s b.0 h b.1) b.1, positive b.0)))
       (eq_or_ne s 0)
-
--- weights that agree in each of the 24 tests order the sets alike
-pub precedes_alike : (v w : ℕ → ℕ) → ((t : ℕ) → t < 24 → v t ≡ w t) → (s s' : ℕ) → Precedes v s s' → Precedes w s s'
-precedes_alike v w same s s' p = rw (← weight-alike v w same s, ← weight-alike v w same s') p
 
 -- {0} comes before {1}, and {0, 3} before {1, 2}
 example_order : Before 1 2 × Before 9 6

@@ -9,8 +9,7 @@ use lib.Dec.{eqb}
 use lib.Pow.{pow-lt}
 use Rattle.folds.specs.Fold.{both}
 use Rattle.folds.proofs.Below.{eq_or_ne}
-use Rattle.sets.specs.Sets.{bit, has}
-use Rattle.sets.specs.Inner.{Shares}
+use Rattle.sets.specs.Sets.{bit, has, Shares}
 use Rattle.sets.proofs.Bits.{bit_lt, bit_cases, bit_out, has_yes, has_no, bit_zero, bit_below, bits_equal, below_of_bits, some_bit}
 use Rattle.sets.proofs.Flip.{pow_bit, pow_bit_other}
 

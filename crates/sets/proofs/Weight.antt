@@ -1,17 +1,14 @@
 -- Laws of a set's weight. Assumes nothing.
-use mathlib.Core.List.{List}
 use mathlib.Core.Path.{◌≡◌, refl, sym, ap, ◌∙◌}
 use mathlib.Core.Logic.{⊎_elim}
 use Prim.Native.Nat.{ℕ, zero, suc, ◌+◌, ◌^◌, ◌≤◌, ◌<◌}
 use native.Mathlib.Nat.{one-mul, zero-mul, add-mul, mul-le-mul_right}
 use native.Mathlib.Numerals.{add-one}
 use native.Mathlib.Omega.{arith}
-use lib.ListN.{get_or}
-use Rattle.folds.specs.Fold.{total}
-use Rattle.folds.proofs.Count.{count_none, count_yes, count_no}
-use Rattle.folds.proofs.Total.{total_same, total_apart, total_stays, total_none, total_more, total_two, total_le, total_gap}
+use Rattle.folds.specs.Fold.{total, count}
+use Rattle.folds.proofs.Count.{count_none, count_yes, count_no, count_le}
+use Rattle.folds.proofs.Total.{total_same, total_apart, total_stays, total_none, total_more, total_two, total_gap}
 use Rattle.sets.specs.Sets.{bit, has, share, weight, one, size}
-use Rattle.sets.specs.Inner.{weight_in}
 use Rattle.sets.proofs.Bits.{bit_cases, bit_high, has_yes, has_no, top_bit, top_below, top_lt}
 use Rattle.sets.proofs.Flip.{flip, flip_out, flip_in, flip_other}
 
@@ -72,51 +69,27 @@ module _ (w : ℕ → ℕ) where
   weight-more a b j l h o e =
       total_gap (share w a) (share w b) 24 j (w j) l (λ i. share-le a b i (h i)) (omega (arith, share-out a j o, share_in b j e))
 
-  share-most : (s i : ℕ) → share w s i ≤ w i
-  share-most s i = ⊎_elim (λ e. omega (arith, share-out s i e)) (λ e. omega (arith, share_in s i e)) (bit_cases s i)
-
-  -- no set is heavier than all tests together
-  pub weight-most : (s : ℕ) → weight w s ≤ total w 24
-  weight-most s = total_le (share w s) w 24 (share-most s)
-
--- ---- weights that agree in each of the 24 tests weigh every set alike
-
-module _ (v w : ℕ → ℕ) (same : (t : ℕ) → t < 24 → v t ≡ w t) where
-  share-alike : (s t : ℕ) → t < 24 → share v s t ≡ share w s t
-  unfolding share
-  share-alike s t l = rw (same t l)
-
-  pub weight-alike : (s : ℕ) → weight v s ≡ weight w s
-  weight-alike s = total_same (share v s) (share w s) 24 (share-alike s)
-
--- ---- weights in a list
-
-pub weight_at : (ws : List ℕ) (t : ℕ) → weight_in ws t ≡ get_or ws t 0
-unfolding weight_in
-weight_at ws t = refl
-
 -- ---- each test weighs 1
 
 pub one_is : (t : ℕ) → one t ≡ 1
 unfolding one
 one_is t = refl
 
-pub one_total : (n : ℕ) → total one n ≡ n
-one_total zero = total_none one
-one_total (suc n) = omega (arith, total_more one n, one_total n, one_is n)
-
-pub one_most : (s : ℕ) → weight one s ≤ 24
-one_most s = omega (arith, weight-most one s, one_total 24)
+pub one_positive : (t : ℕ) → 0 < one t
+one_positive t = omega (arith, one_is t)
 
 -- the weight is the number of tests
-shares_count : (s n : ℕ) → total (share one s) n ≡ size s n
-shares_count s zero = total_none (share one s) ∙ sym (count_none (has s))
-shares_count s (suc n) =
-    let q : size s (n + 1) ≡ size s (suc n) = ap (size s) (add-one n) in
+weight_counts : (s n : ℕ) → total (share one s) n ≡ count (has s) n
+weight_counts s zero = total_none (share one s) ∙ sym (count_none (has s))
+weight_counts s (suc n) =
+    let q : count (has s) (n + 1) ≡ count (has s) (suc n) = ap (count (has s)) (add-one n) in
     ⊎_elim
-    (λ e. omega (arith, shares_count s n, total_more (share one s) n, share-out one s n e, count_no (has s) n (has_no s n e)))
-    (λ e. omega (arith, shares_count s n, total_more (share one s) n, share_in one s n e, one_is n, count_yes (has s) n (has_yes s n e)))
+    (λ e. omega (arith, weight_counts s n, total_more (share one s) n, share-out one s n e, count_no (has s) n (has_no s n e)))
+    (λ e. omega (arith, weight_counts s n, total_more (share one s) n, share_in one s n e, one_is n, count_yes (has s) n (has_yes s n e)))
     (bit_cases s n)
 
-pub one_counts : (n s : ℕ) → n ≤ 24 → s < 2 ^ n → weight one s ≡ size s n
-one_counts n s l h = weight-below one n s l h ∙ shares_count s n
+pub size_counts : (n s : ℕ) → n ≤ 24 → s < 2 ^ n → size s ≡ count (has s) n
+size_counts n s l h = weight-below one n s l h ∙ weight_counts s n
+
+pub size_most : (s : ℕ) → s < 2 ^ 24 → size s ≤ 24
+size_most s h = omega (arith, size_counts 24 s (omega arith) h, count_le (has s) 24)

@@ -1,13 +1,13 @@
 -- The set of the numbers that have p.
 -- Assumes nothing.
 use Rattle.std.specs.Prelude.{Bool, ℕ, zero, suc, ◌+◌, ◌^◌}
-use Rattle.folds.specs.Fold.{whether}
+use Rattle.folds.specs.Fold.{pick}
 
 -- the set s with test t, where it is to be in
-unfoldable pub set_with : ℕ → ℕ → Bool → ℕ
-set_with s t inside = s + whether inside (2 ^ t) 0
+unfoldable pub with_test : ℕ → ℕ → Bool → ℕ
+with_test s t inside = s + pick inside (2 ^ t) 0
 
 -- the set of the numbers below n that have p
 unfoldable pub set_of : (ℕ → Bool) → ℕ → ℕ
 set_of p zero = 0
-set_of p (suc n) = set_with (set_of p n) n (p n)
+set_of p (suc n) = with_test (set_of p n) n (p n)

@@ -1,3 +1,2 @@
 pub mod Sets
-pub mod Inner
 pub mod Collect

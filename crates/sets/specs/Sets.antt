@@ -1,7 +1,7 @@
 -- Sets of tests, their weight and their order. The sentences are document 01's.
 -- Assumes nothing.
-use Rattle.std.specs.Prelude.{Bool, ◌⊎◌, ◌≡◌, ℕ, ◌*◌, ◌/◌, ◌%◌, ◌^◌, ◌<◌, eqb}
-use Rattle.folds.specs.Fold.{count, total}
+use Rattle.std.specs.Prelude.{Bool, ◌⊎◌, ◌≡◌, ℕ, ◌*◌, ◌/◌, ◌%◌, ◌^◌, ◌<◌, eqb, ltb}
+use Rattle.folds.specs.Fold.{total}
 
 -- "A set of tests is given and returned as a 32-bit number whose bit t stands for test t."
 unfoldable pub bit : ℕ → ℕ → ℕ
@@ -11,13 +11,17 @@ bit s t = s / 2 ^ t % 2
 unfoldable pub has : ℕ → ℕ → Bool
 has s t = eqb (bit s t) 1
 
+-- some test is in both m and s
+abbrev pub Shares : ℕ → ℕ → Type 0
+Shares m s = (t : ℕ) × (bit m t ≡ 1) × (bit s t ≡ 1)
+
 -- every test of s is one of the allowed ones
 abbrev pub Within : (ℕ → Type 0) → ℕ → Type 0
 Within allowed s = (t : ℕ) → bit s t ≡ 1 → allowed t
 
--- how many tests below n the set s has
-abbrev pub size : ℕ → ℕ → ℕ
-size s n = count (has s) n
+-- every test of s is below n: no bit is set from n on
+unfoldable pub within : ℕ → ℕ → Bool
+within s n = ltb s (2 ^ n)
 
 -- what test t adds to the weight of s, where w gives each test its weight
 unfoldable pub share : (ℕ → ℕ) → ℕ → ℕ → ℕ
@@ -30,6 +34,10 @@ weight w s = total (share w s) 24
 -- each test weighs 1
 unfoldable pub one : ℕ → ℕ
 one t = 1
+
+-- how many tests s has
+abbrev pub size : ℕ → ℕ
+size s = weight one s
 
 -- "Order of sets of equal size: the set that holds the lowest test number in which the two differ comes first."
 abbrev pub Before : ℕ → ℕ → Type 0

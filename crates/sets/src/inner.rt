@@ -1,22 +1,14 @@
 // What the other crates ask of a set.
 ghost use Rattle.std.specs.Prelude.{◌≡◌, ◌≤◌, ◌<◌};
-ghost use Rattle.sets.specs.Sets.{has, size};
-ghost use Rattle.sets.specs.Inner.{within};
-
-// Whether the set holds i. A set of tests has 32 bits, one of faults or columns 64.
-pub fn holds(set: u64, i: usize) -> bool
-    requires { i < 64 }
-    ensures { result ≡ has set i }
-{
-    (set >> i) % 2 == 1
-}
+ghost use Rattle.folds.specs.Fold.{count};
+ghost use Rattle.sets.specs.Sets.{has, within};
 
 // Whether the set holds test t.
 pub fn has(set: u32, t: usize) -> bool
     requires { t < 32 }
     ensures { result ≡ has set t }
 {
-    holds(set as u64, t)
+    (set >> t) % 2 == 1
 }
 
 // Whether every test of the set is below tests.
@@ -27,18 +19,18 @@ pub fn within(set: u32, tests: usize) -> bool
     set >> tests == 0
 }
 
-// How many of the numbers below n the set holds.
-pub fn size(set: u64, n: usize) -> usize
-    requires { n ≤ 64 }
-    ensures { result ≡ size set n }
+// How many tests the set has below tests.
+pub fn size(set: u32, tests: usize) -> usize
+    requires { tests ≤ 24 }
+    ensures { result ≡ count (has set) tests }
 {
-    let mut held: usize = 0;
+    let mut n: usize = 0;
     let mut i = 0;
-    while i < n {
-        if holds(set, i) {
-            held += 1;
+    while i < tests {
+        if has(set, i) {
+            n += 1;
         }
         i += 1;
     }
-    held
+    n
 }

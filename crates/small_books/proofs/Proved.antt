@@ -1,76 +1,84 @@
 -- Document 01's starred small books: one claim, computed over the whole list. Assumes nothing.
-use mathlib.Core.Bool.{Bool, true, not}
+use mathlib.Core.Bool.{Bool, true}
 use mathlib.Core.List.{List, [], ◌∷◌}
-use mathlib.Core.Path.{◌≡◌, refl, sym, ◌∙◌}
-use Prim.Native.Nat.{ℕ}
-use borrow.Author.Tests.{eqb-true, eqb-false, not-true}
+use mathlib.Core.Path.{◌≡◌, refl}
+use borrow.Author.Tests.{eqb-true}
 use lib.Dec.{eqb}
-use lib.ListN.{length}
-use Rattle.folds.specs.Fold.{both, count}
+use Rattle.folds.specs.Fold.{both, always, count, every, joined, single, some, total}
 use Rattle.folds.proofs.Bools.{both_left, both_right}
+use Rattle.sets.specs.Sets.{bit, has, one, share, within}
+use Rattle.table.specs.Answers.{verdict_number}
+use Rattle.table.specs.declared.Reading.{Reading}
 use Rattle.table.specs.declared.Table.{Table}
-use Rattle.table.specs.WellFormed.{WellFormed}
-use Rattle.terms.specs.Columns.{alike, apart, lowest}
+use Rattle.table.specs.Table.{cell_at, empty_table, place_of}
+use Rattle.table.specs.Test.{cell_right, differ, fresh, label_right, row_right, well_formed}
+use Rattle.terms.specs.Terms.{class_count}
+use Rattle.terms.specs.Columns.{agrees, alike, apart, lowest}
+use Rattle.grow.specs.Grow.{differs, filled}
 use Rattle.book.specs.Reading.{read_book}
-use Rattle.book_laws.proofs.Numbers.{refused_empty}
-use Rattle.book_laws.proofs.Tables.{reading_formed}
-use Rattle.cover.specs.Kept.{kept_set, covers, follows, followsAt, has_at, kept, outdone, outdoneBy, used}
-use Rattle.samples.specs.Books.{table_in}
-use Rattle.samples.proofs.Computed.{computed}
-use Rattle.choice_laws.proofs.Small.{choosing}
+use Rattle.records.specs.Step.{edgeRule, endRule, faultRule, first_of, kindRule, responseRule, ruleAt, stepAt, testRule, unknownRule}
+use Rattle.cover.specs.Answer.{kept_set}
+use Rattle.cover.specs.Kept.{covers, follows, followsAt, has_at, kept, outdone, outdoneBy, used}
 use Rattle.small_books.specs.Books.{small_books}
-use Rattle.small_books.specs.Claim.{Saying, AllTrue, Empty, Entry, accepted, refused, Reads, Holds, AllHold}
-use Rattle.small_books.proofs.Test.{exceeds, gives, isTrue, true-by}
+use Rattle.small_books.specs.Claim.{Saying, classes, choice, aside, capped, TrueOf, AllTrue, Entry, Fits, AllHold}
+use Rattle.choice_laws.proofs.Small.{choice-by, eachReaching, hits, hitsAt, hitting, isChoice, leadsIn, precedes, sameIn}
+use Rattle.small_books.proofs.Test.{aside-by, capGives, capped-by, exceeds, isAside, isCapped}
+use Rattle.sets.specs.Collect as collect
+use Rattle.cover.specs.Masks as masks
 
 -- ---- the tests of an entry, and what they say
 
+is_true : Table → Saying → Bool
+is_true tb (classes n) = eqb (class_count tb) n
+is_true tb (choice goal s) = isChoice tb goal s
+is_true tb (aside goal s) = isAside tb goal s
+is_true tb (capped goal cap r) = isCapped tb goal cap r
+
+true_by : (tb : Table) (x : Saying) → is_true tb x ≡ true → TrueOf tb x
+unfolding is_true
+true_by tb (classes n) h = eqb-true _ _ h
+true_by tb (choice goal s) h = choice-by tb goal s h
+true_by tb (aside goal s) h = aside-by tb goal s h
+true_by tb (capped goal cap r) h = capped-by tb goal cap r h
+
 are_true : Table → List Saying → Bool
 are_true tb [] = true
-are_true tb (x ∷ xs) = both (isTrue tb x) (are_true tb xs)
+are_true tb (x ∷ xs) = both (is_true tb x) (are_true tb xs)
 
-all_true : (tb : Table) → WellFormed tb → (xs : List Saying) → are_true tb xs ≡ true → AllTrue xs tb
+all_true : (tb : Table) (xs : List Saying) → are_true tb xs ≡ true → AllTrue tb xs
 unfolding are_true
-all_true tb w [] h = tt
-all_true tb w (x ∷ xs) h = (true-by tb w x (both_left (isTrue tb x) _ h), all_true tb w xs (both_right (isTrue tb x) _ h))
+all_true tb [] h = tt
+all_true tb (x ∷ xs) h = (true_by tb x (both_left (is_true tb x) _ h), all_true tb xs (both_right (is_true tb x) _ h))
 
-module _ (book : List ℕ) (number place : ℕ) where
-  -- the reading's number and place, and a test besides
-  reads : Bool → Bool
-  reads test = both (eqb (read_book book).number number) (both (eqb (read_book book).place place) test)
+fits : Entry → Reading → Bool
+fits e r = both (eqb (verdict_number r.verdict) e.number) (both (eqb r.place e.place) (are_true r.table e.says))
 
-  reads-by : (test : Bool) (P : Table → Type 0) → reads test ≡ true → ((read_book book).number ≡ number → test ≡ true → P (table_in book)) → Reads book number place P
-  unfolding reads
-  reads-by test P h f =
-      let n = eqb (read_book book).number number in
-      let k = eqb (read_book book).place place in
-      let rest : both k test ≡ true = both_right n _ h in
-      let e = eqb-true _ _ (both_left n _ h) in
-      record { number = e; place = eqb-true _ _ (both_left k _ rest); table = f e (both_right k _ rest) }
-
-holds : Entry → Bool
-holds (accepted book says) = reads book 0 (length book) (are_true (table_in book) says)
-holds (refused book number place) = reads book number place (not (eqb number 0))
-
-holds_by : (e : Entry) → holds e ≡ true → Holds e
-unfolding holds
-holds_by (accepted book says) h = reads-by book 0 (length book) _ (AllTrue says) h (λ e t. all_true (table_in book) (reading_formed book) says t)
-holds_by (refused book number place) h =
-    reads-by book number place _ Empty h (λ e t. refused_empty book (λ z. eqb-false _ _ (not-true _ t) (sym e ∙ z)))
+fits_by : (e : Entry) (r : Reading) → fits e r ≡ true → Fits e r
+unfolding fits
+fits_by e r h =
+    let rest : both (eqb r.place e.place) (are_true r.table e.says) ≡ true = both_right (eqb (verdict_number r.verdict) e.number) _ h in
+    record {
+      number = eqb-true _ _ (both_left (eqb (verdict_number r.verdict) e.number) _ h);
+      place = eqb-true _ _ (both_left (eqb r.place e.place) _ rest);
+      says = all_true _ _ (both_right (eqb r.place e.place) _ rest);
+    }
 
 entries_hold : List Entry → Bool
 entries_hold [] = true
-entries_hold (e ∷ es) = both (holds e) (entries_hold es)
+entries_hold (e ∷ es) = both (fits e (read_book e.book)) (entries_hold es)
 
 all_hold : (es : List Entry) → entries_hold es ≡ true → AllHold es
 unfolding entries_hold
 all_hold [] h = tt
-all_hold (e ∷ es) h = (holds_by e (both_left (holds e) _ h), all_hold es (both_right (holds e) _ h))
+all_hold (e ∷ es) h =
+    let here = fits e (read_book e.book) in
+    (fits_by e (read_book e.book) (both_left here _ h), all_hold es (both_right here _ h))
 
 -- ---- the whole list
 
-all_right : entries_hold small_books ≡ true
-unfolding entries_hold holds reads are_true isTrue gives exceeds small_books computed choosing count alike apart lowest kept_set kept outdone outdoneBy covers used followsAt follows has_at
-all_right = refl
+computed : entries_hold small_books ≡ true
+unfolding entries_hold fits are_true is_true isChoice isAside isCapped capGives exceeds eachReaching hitting hits hitsAt precedes leadsIn sameIn small_books read_book stepAt ruleAt kindRule edgeRule unknownRule endRule responseRule faultRule testRule first_of filled differs empty_table cell_at place_of well_formed label_right fresh differ row_right cell_right every count total joined single always bit has within share one agrees alike apart lowest kept_set collect.set_of collect.with_test some kept outdone outdoneBy covers used followsAt follows has_at masks.masks_of masks.maskRow masks.counts masks.goalMask masks.mask_of masks.differs masks.goal_pair
+computed = refl
 
 pub small_books_lem : AllHold small_books
-small_books_lem = all_hold small_books all_right
+small_books_lem = all_hold small_books computed

@@ -59,7 +59,7 @@ pub fn faults(n: usize)
 }
 
 fn cap(cap: u32) {
-    let r = book::read_book(&samples::inner::seen_fault());
+    let r = book::read_book(b"\x54\x00\x46\x01\x00\x52\x00\x00\x01\x45\x01\x01");
     io::write_all(1, b"cap");
     show::number(cap as u64);
     io::write_all(1, b" :");

@@ -5,21 +5,46 @@ mod show;
 
 // The short starred books that are accepted, in the document's order.
 fn accepted_books() {
-    show::book(&samples::inner::end_alone());
-    show::book(&samples::inner::test_alone());
-    show::book(&samples::inner::seen_fault());
-    show::book(&samples::inner::unseen_fault());
-    show::book(&samples::inner::two_faults());
-    show::book(&samples::inner::equal_tests());
-    show::book(&samples::inner::six_faults());
+    show::book(b"\x45\x00\x00");
+    show::book(b"\x54\x07\x45\x01\x00");
+    show::book(b"\x54\x00\x46\x01\x00\x52\x00\x00\x01\x45\x01\x01");
+    show::book(b"\x54\x00\x46\x01\x00\x45\x01\x01");
+}
+
+// The longer starred books, in rows: tests, faults, the responses of a fault, the end.
+fn longer_books() {
+    show::book(
+        b"\x54\x00\x54\x00\
+        \x46\x01\x00\x46\x02\x00\
+        \x52\x00\x00\x01\x52\x01\x00\x01\
+        \x52\x00\x01\x01\x52\x01\x01\x02\
+        \x45\x02\x02",
+    );
+    show::book(
+        b"\x54\x00\x54\x00\
+        \x46\x01\x00\
+        \x52\x00\x00\x01\x52\x01\x00\x01\
+        \x45\x02\x01",
+    );
+    show::book(
+        b"\x54\x00\x54\x00\x54\x00\
+        \x46\x01\x00\x46\x02\x00\x46\x03\x00\x46\x04\x00\x46\x05\x00\x46\x06\x00\
+        \x52\x00\x00\x01\x52\x01\x00\x01\
+        \x52\x00\x01\x01\x52\x01\x01\x01\
+        \x52\x01\x02\x01\
+        \x52\x00\x03\x01\x52\x02\x03\x01\
+        \x52\x00\x04\x01\x52\x02\x04\x01\
+        \x52\x02\x05\x01\
+        \x45\x03\x06",
+    );
 }
 
 // The starred books that are refused, and then the others.
 fn refused_books() {
-    show::book(&samples::inner::no_bytes());
-    show::book(&samples::inner::end_cut());
-    show::book(&samples::inner::byte_after_end());
-    show::book(&samples::inner::test_after_fault());
+    show::book(b"");
+    show::book(b"\x45\x00");
+    show::book(b"\x45\x00\x00\x45");
+    show::book(b"\x46\x01\x00\x54\x00");
     show::book(b"\x52\x00\x00\x01");
     show::book(b"\x45\x01\x00");
     show::book(b"\x46\x01\x02");
@@ -29,6 +54,7 @@ fn refused_books() {
 
 fn main() {
     accepted_books();
+    longer_books();
     refused_books();
     edges::tests(24);
     edges::tests(25);

@@ -9,20 +9,17 @@ use borrow.Author.Tests.{eq-eqb, eqb-true, eqb-false, not-true, not-false}
 use lib.Dec.{eqb}
 use lib.ListN.{length, get_or, set}
 use lib.Seq.{ext_get_or}
-use Rattle.folds.specs.Fold.{either, every, count, gather}
+use Rattle.folds.specs.Fold.{either, every, count, gather, onto}
 use Rattle.folds.proofs.Bools.{clash, both_true, both_left, both_right, either_second}
 use Rattle.folds.proofs.Count.{count_le, count_less, count_reaches, count_yes, count_no}
 use Rattle.folds.proofs.Every.{every_at, every_lacks, every_stop, every_end}
 use Rattle.folds.proofs.Gather.{gather-length, gather-store}
 use Rattle.folds.proofs.Onto.{onto_length}
-use Rattle.asks.proofs.Answers.{unlisted_length}
-use Rattle.sets.specs.Sets.{has, size}
-use Rattle.table.specs.Answers.{unlisted}
+use Rattle.sets.specs.Sets.{has}
 use Rattle.table.specs.declared.Verdict.TheVariants.{Accepted}
 use Rattle.terms.specs.Columns.{outputOf, outputsUnder}
 use Rattle.terms_laws.proofs.Classes.{signature-get}
-use Rattle.suspects.specs.Suspects.{equal, itself, columns_with, suspect}
-use Rattle.suspects.specs.Inner.{answers, found_under}
+use Rattle.suspects.specs.Suspects.{equal, unlisted, itself, answers, suspect, foundUnder}
 
 -- ---- equal lists
 
@@ -52,26 +49,26 @@ module _ (out : ℕ → ℕ → ℕ) (tests s : ℕ) (seen : List ℕ) where
 
   -- ---- test by test
 
-  module _ (one_each : length seen ≡ size s tests) (c : ℕ) where
-    answer_at : (t : ℕ) → answers out s seen c t ≡ true → has s t ≡ true → out t c ≡ get_or seen (size s t) 0
+  module _ (one_each : length seen ≡ count (has s) tests) (c : ℕ) where
+    answer_at : (t : ℕ) → answers out s seen c t ≡ true → has s t ≡ true → out t c ≡ get_or seen (count (has s) t) 0
     unfolding answers
     answer_at t h k = eqb-true _ _ (either_second _ _ h (ap not k))
 
     all-answer : every (answers out s seen c) tests ≡ true → outputsUnder out tests s c ≡ seen
     all-answer h =
-        let l : length (outputsUnder out tests s c) ≡ size s tests = gather-length (has s) (outputOf out c) tests in
+        let l : length (outputsUnder out tests s c) ≡ count (has s) tests = gather-length (has s) (outputOf out c) tests in
         ext_get_or 0 (outputsUnder out tests s c) seen (l ∙ sym one_each)
         (λ i w. at_place i (count_reaches (has s) tests i (omega arith)))
       where
-        at_place : (i : ℕ) → (t : ℕ) × (t < tests) × (has s t ≡ true) × (size s t ≡ i) → get_or (outputsUnder out tests s c) i 0 ≡ get_or seen i 0
+        at_place : (i : ℕ) → (t : ℕ) × (t < tests) × (has s t ≡ true) × (count (has s) t ≡ i) → get_or (outputsUnder out tests s c) i 0 ≡ get_or seen i 0
         at_place i (t, w, k, e) = rw (← e) (signature-get out tests s c t w k ∙ answer_at t (every_at (answers out s seen c) tests t h w) k)
 
-    lacks-answer : (t : ℕ) → answers out s seen c t ≡ false → (has s t ≡ true) × (out t c ≡ get_or seen (size s t) 0 → ⊥)
+    lacks-answer : (t : ℕ) → answers out s seen c t ≡ false → (has s t ≡ true) × (out t c ≡ get_or seen (count (has s) t) 0 → ⊥)
     unfolding answers
     lacks-answer t h = go (has s t) refl h
       where
-        go : (b : Bool) → has s t ≡ b → either (not b) (eqb (out t c) (get_or seen (size s t) 0)) ≡ false
-            → (has s t ≡ true) × (out t c ≡ get_or seen (size s t) 0 → ⊥)
+        go : (b : Bool) → has s t ≡ b → either (not b) (eqb (out t c) (get_or seen (count (has s) t) 0)) ≡ false
+            → (has s t ≡ true) × (out t c ≡ get_or seen (count (has s) t) 0 → ⊥)
         go true e k = (e, eqb-false _ _ k)
         go false e k = clash true refl k
 
@@ -85,7 +82,7 @@ module _ (out : ℕ → ℕ → ℕ) (tests s : ℕ) (seen : List ℕ) where
         go false true e f =
             let x = every_lacks (answers out s seen c) tests e in
             let y = lacks-answer x.0 x.2 in
-            absurd (y.1 (sym (signature-get out tests s c x.0 x.1 y.0) ∙ ap (λ (l : List ℕ). get_or l (size s x.0) 0) (suspect-same c f)))
+            absurd (y.1 (sym (signature-get out tests s c x.0 x.1 y.0) ∙ ap (λ (l : List ℕ). get_or l (count (has s) x.0) 0) (suspect-same c f)))
 
     -- ---- a loop over the tests, with the invariant every (answers out s seen c) i ≡ true
 
@@ -102,31 +99,35 @@ module _ (out : ℕ → ℕ → ℕ) (s : ℕ) (seen : List ℕ) (c t : ℕ) (r 
   unfolding answers
   answer-other h = simp (← q, not-true r h)
 
-  pub answer-held : (j v : ℕ) → not r ≡ false → j ≡ size s t → v ≡ out t c → eqb v (get_or seen j 0) ≡ answers out s seen c t
+  pub answer-held : (j v : ℕ) → not r ≡ false → j ≡ count (has s) t → v ≡ out t c → eqb v (get_or seen j 0) ≡ answers out s seen c t
   unfolding answers
   answer-held j v h e f = simp (← q, not-false r h, e, f)
 
 -- the output observed for a test of the set stands in the list
-pub output_there : (s tests t j : ℕ) (r : Bool) (seen : List ℕ) → t < tests → length seen ≡ size s tests → j ≡ size s t → r ≡ has s t → not r ≡ false → j < length seen
+pub output_there : (s tests t j : ℕ) (r : Bool) (seen : List ℕ) → t < tests → length seen ≡ count (has s) tests → j ≡ count (has s) t → r ≡ has s t → not r ≡ false → j < length seen
 output_there s tests t j r seen w l e q h = omega (arith, count_less (has s) t tests w (sym q ∙ not-false r h))
 
 -- the place of the next output
-pub place_stays : (s t j : ℕ) (r : Bool) → j ≡ size s t → r ≡ has s t → not r ≡ true → j ≡ size s (t + 1)
+pub place_stays : (s t j : ℕ) (r : Bool) → j ≡ count (has s) t → r ≡ has s t → not r ≡ true → j ≡ count (has s) (t + 1)
 place_stays s t j r e q h = omega (arith, count_no (has s) t (sym q ∙ not-true r h))
 
-pub place_moves : (s t j : ℕ) (r : Bool) → j ≡ size s t → r ≡ has s t → not r ≡ false → j + 1 ≡ size s (t + 1)
+pub place_moves : (s t j : ℕ) (r : Bool) → j ≡ count (has s) t → r ≡ has s t → not r ≡ false → j + 1 ≡ count (has s) (t + 1)
 place_moves s t j r e q h = omega (arith, count_yes (has s) t (sym q ∙ not-false r h))
+
+length_unlisted : length unlisted ≡ 61
+unfolding unlisted
+length_unlisted = refl
 
 module _ (p : ℕ → Bool) where
   -- the next suspect is stored behind those before it
-  pub list_put : (i j n : ℕ) (r : Bool) (b b' : List ℕ) → b ≡ columns_with p i → j ≡ count p i → i < n → n ≤ 61
-      → r ≡ p i → r ≡ true → b' ≡ set b j i → b' ≡ columns_with p (i + 1)
+  pub list_put : (i j n : ℕ) (r : Bool) (b b' : List ℕ) → b ≡ onto (gather p itself i) unlisted → j ≡ count p i → i < n → n ≤ 61
+      → r ≡ p i → r ≡ true → b' ≡ set b j i → b' ≡ onto (gather p itself (i + 1)) unlisted
   list_put i j n r b b' e f w u q h t =
       let m = gather-length p itself i in
-      let l : length b ≡ length unlisted = ap length e ∙ onto_length (gather p itself i) unlisted (omega (arith, count_le p i, unlisted_length)) in
-      gather-store p itself i j i r unlisted b b' e f (omega (arith, count_le p i, unlisted_length)) l q h refl t
+      let l : length b ≡ length unlisted = ap length e ∙ onto_length (gather p itself i) unlisted (omega (arith, count_le p i, length_unlisted)) in
+      gather-store p itself i j i r unlisted b b' e f (omega (arith, count_le p i, length_unlisted)) l q h refl t
 
-pub found_end : (out : ℕ → ℕ → ℕ) (tests s : ℕ) (seen : List ℕ) (i n k : ℕ) (b : List ℕ) → b ≡ columns_with (suspect out tests s seen) i
-    → k ≡ count (suspect out tests s seen) i → i ≤ n → n ≤ i → record { verdict = Accepted; count = k; columns = b } ≡ found_under out tests s seen n
-unfolding found_under
+pub found_end : (out : ℕ → ℕ → ℕ) (tests s : ℕ) (seen : List ℕ) (i n k : ℕ) (b : List ℕ) → b ≡ onto (gather (suspect out tests s seen) itself i) unlisted
+    → k ≡ count (suspect out tests s seen) i → i ≤ n → n ≤ i → record { verdict = Accepted; count = k; columns = b } ≡ foundUnder out tests s seen n
+unfolding foundUnder
 found_end out tests s seen i n k b e f w u = rw (e, f, le_antisymm w u)

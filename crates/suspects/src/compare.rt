@@ -1,9 +1,9 @@
 // Each column compared with the observed outputs.
 ghost use Rattle.std.specs.Prelude.{◌≡◌, ◌+◌, ◌≤◌, ◌<◌, length};
-ghost use Rattle.sets.specs.Sets.{size};
+ghost use Rattle.folds.specs.Fold.{count};
+ghost use Rattle.sets.specs.Sets.{has};
 ghost use Rattle.table.specs.Table.{cell_at};
-ghost use Rattle.suspects.specs.Suspects.{suspect};
-ghost use Rattle.suspects.specs.Inner.{answers, found_under};
+ghost use Rattle.suspects.specs.Suspects.{answers, suspect, foundUnder};
 
 use table::{Suspects, Verdict};
 
@@ -17,7 +17,7 @@ fn answers<'a>(
     t: usize,
     j: usize,
 ) -> bool
-    requires { (tests ≤ 24) × (c < 61) × (t < tests) × (length outputs.now ≡ size set tests) × (j ≡ size set t) }
+    requires { (tests ≤ 24) × (c < 61) × (t < tests) × (length outputs.now ≡ count (has set) tests) × (j ≡ count (has set) t) }
     ensures { result ≡ answers (cell_at cells.now) set outputs.now c t }
 {
     if !sets::inner::has(set, t) {
@@ -28,8 +28,8 @@ fn answers<'a>(
 
 // The place of the next output, after test t.
 fn place_after(set: u32, t: usize, j: usize) -> usize
-    requires { (t < 24) × (j ≡ size set t) }
-    ensures { result ≡ size set (t + 1) }
+    requires { (t < 24) × (j ≡ count (has set) t) }
+    ensures { result ≡ count (has set) (t + 1) }
 {
     if !sets::inner::has(set, t) {
         return j;
@@ -39,7 +39,7 @@ fn place_after(set: u32, t: usize, j: usize) -> usize
 
 // Whether column c is a suspect.
 fn suspect<'a>(cells: &'a [u8; 1464], tests: usize, set: u32, outputs: &'a [u8], c: usize) -> bool
-    requires { (tests ≤ 24) × (c < 61) × (length outputs.now ≡ size set tests) }
+    requires { (tests ≤ 24) × (c < 61) × (length outputs.now ≡ count (has set) tests) }
     ensures { result ≡ suspect (cell_at cells.now) tests set outputs.now c }
 {
     let mut j = 0;
@@ -62,8 +62,8 @@ pub fn found<'a>(
     outputs: &'a [u8],
     columns: usize,
 ) -> Suspects
-    requires { (tests ≤ 24) × (columns ≤ 61) × (length outputs.now ≡ size set tests) }
-    ensures { result ≡ found_under (cell_at cells.now) tests set outputs.now columns }
+    requires { (tests ≤ 24) × (columns ≤ 61) × (length outputs.now ≡ count (has set) tests) }
+    ensures { result ≡ foundUnder (cell_at cells.now) tests set outputs.now columns }
 {
     let mut list = [0u8; 61];
     let mut n: usize = 0;

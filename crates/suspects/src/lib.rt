@@ -1,7 +1,6 @@
 // The suspects: the columns whose signature under a set of tests equals the observed outputs.
 ghost use Rattle.std.specs.Prelude.{◌≡◌};
-ghost use Rattle.suspects.specs.Suspects.{SuspectsAre};
-ghost use Rattle.suspects.specs.Inner.{refused_by};
+ghost use Rattle.suspects.specs.Suspects.{refused_by, suspects_of};
 
 use table::{Refusal, Suspects, Table, Verdict};
 
@@ -19,13 +18,17 @@ fn refused(why: Refusal) -> Suspects
 
 // The suspects of a table for observed outputs, one for each test of the set.
 pub fn suspects_of(table: Table, set: u32, outputs: &[u8]) -> Suspects
-    ensures { SuspectsAre table set outputs.now result }
+    ensures { result ≡ suspects_of table set outputs.now }
 {
-    if let Verdict::Refused(why) = asks::inner::set_verdict(table, set) {
-        return refused(why);
+    if !table::well_formed(table) {
+        return refused(Refusal::NotWellFormed);
     }
     let tests = table.tests;
-    if outputs.len() != sets::inner::size(set as u64, tests) {
+    if !sets::inner::within(set, tests) {
+        return refused(Refusal::UnknownTest);
+    }
+    let n = sets::inner::size(set, tests);
+    if outputs.len() != n {
         return refused(Refusal::NotOneEach);
     }
     let columns = table.faults + 1;

@@ -3,14 +3,12 @@ use mathlib.Core.Path.{◌≡◌, refl, sym, ◌∙◌}
 use Prim.Native.Nat.{ℕ, ◌<◌}
 use native.Mathlib.Omega.{arith}
 use lib.Dec.{eqb}
-use Rattle.folds.specs.Fold.{whether}
+use Rattle.folds.specs.Fold.{pick}
 use Rattle.table.specs.declared.Refusal.{Refusal}
 use Rattle.table.specs.declared.Refusal.TheVariants.{UnknownKind, BodyCut, NoEnd, OutOfPlace, TooMany, StuckValue, SameLabel, NotInBook, NotAfter, RepeatsCorrect, WrongCounts, BytesFollow, NotWellFormed, UnknownTest, CapTooHigh, NoneWithinCap, BufferShort, NotOneEach}
-use Rattle.table.specs.declared.Verdict.{Verdict}
 use Rattle.table.specs.declared.Faults.{Faults}
 use Rattle.table.specs.declared.Written.{Written}
-use Rattle.table.specs.Answers.{number_of, verdict_number, faults_number, faults_set, written_number, written_count}
-use Rattle.table.specs.declared.Verdict.TheVariants as verdict
+use Rattle.table.specs.Answers.{number_of, faults_number, faults_set, written_number, written_count}
 use Rattle.table.specs.declared.Faults.TheVariants as faults
 use Rattle.table.specs.declared.Written.TheVariants as written
 
@@ -38,30 +36,30 @@ number_bounds NotOneEach = (omega arith, omega arith)
 -- the refusal of a number
 refusal_of : ℕ → Refusal
 refusal_of n =
-    whether (eqb n 1) UnknownKind
-    (whether (eqb n 2) BodyCut
-    (whether (eqb n 3) NoEnd
-    (whether (eqb n 4) OutOfPlace
-    (whether (eqb n 5) TooMany
-    (whether (eqb n 6) StuckValue
-    (whether (eqb n 7) SameLabel
-    (whether (eqb n 8) NotInBook
-    (whether (eqb n 9) NotAfter
-    (whether (eqb n 10) RepeatsCorrect
-    (whether (eqb n 11) WrongCounts
-    (whether (eqb n 12) BytesFollow
-    (whether (eqb n 20) NotWellFormed
-    (whether (eqb n 21) UnknownTest
-    (whether (eqb n 22) CapTooHigh
-    (whether (eqb n 23) NoneWithinCap
-    (whether (eqb n 24) BufferShort NotOneEach))))))))))))))))
+    pick (eqb n 1) UnknownKind
+    (pick (eqb n 2) BodyCut
+    (pick (eqb n 3) NoEnd
+    (pick (eqb n 4) OutOfPlace
+    (pick (eqb n 5) TooMany
+    (pick (eqb n 6) StuckValue
+    (pick (eqb n 7) SameLabel
+    (pick (eqb n 8) NotInBook
+    (pick (eqb n 9) NotAfter
+    (pick (eqb n 10) RepeatsCorrect
+    (pick (eqb n 11) WrongCounts
+    (pick (eqb n 12) BytesFollow
+    (pick (eqb n 20) NotWellFormed
+    (pick (eqb n 21) UnknownTest
+    (pick (eqb n 22) CapTooHigh
+    (pick (eqb n 23) NoneWithinCap
+    (pick (eqb n 24) BufferShort NotOneEach))))))))))))))))
 
 -- ---- an answer of any type that is accepted with a value or refused
 
 module _ {A : Type 0} (accepted : ℕ → A) (refused : Refusal → A) where
   -- the answer of a number and a value
   answer_of : ℕ → ℕ → A
-  answer_of n v = whether (eqb n 0) (accepted v) (refused (refusal_of n))
+  answer_of n v = pick (eqb n 0) (accepted v) (refused (refusal_of n))
 
   -- no two refusals have one number, and none has 0
   refused-back : (why : Refusal) → answer_of (number_of why) 0 ≡ refused why
@@ -95,13 +93,6 @@ module _ {A : Type 0} (accepted : ℕ → A) (refused : Refusal → A) where
 
 pub number_one : (a b : Refusal) → number_of a ≡ number_of b → a ≡ b
 number_one a b e = answer-one {A = Refusal} (λ v. UnknownKind) (λ why. why) number_of (λ why. 0) (refused-back (λ v. UnknownKind) (λ why. why)) a b e refl
-
-pub verdict_one : (a b : Verdict) → verdict_number a ≡ verdict_number b → a ≡ b
-verdict_one a b e = answer-one {A = Verdict} (λ v. verdict.Accepted) verdict.Refused verdict_number (λ a. 0) back a b e refl
-  where
-    back : (a : Verdict) → answer_of {A = Verdict} (λ v. verdict.Accepted) verdict.Refused (verdict_number a) 0 ≡ a
-    back verdict.Accepted = accepted-back {A = Verdict} (λ v. verdict.Accepted) verdict.Refused 0
-    back (verdict.Refused why) = refused-back {A = Verdict} (λ v. verdict.Accepted) verdict.Refused why
 
 pub faults_one : (a b : Faults) → faults_number a ≡ faults_number b → faults_set a ≡ faults_set b → a ≡ b
 faults_one = answer-one faults.Set faults.Refused faults_number faults_set back

@@ -1,9 +1,8 @@
--- Where the cells lie: each in the table, no two at one place; and two of them compared. Assumes nothing.
-use mathlib.Core.Bool.{Bool, not}
+-- Where the cells lie: each in the table, no two at one place. Assumes nothing.
 use mathlib.Core.Path.{◌≡◌}
 use Prim.Native.Nat.{ℕ, ◌<◌}
 use native.Mathlib.Omega.{arith}
-use Rattle.table.specs.Table.{place_of, agrees, separates}
+use Rattle.table.specs.Table.{place_of}
 
 pub place_fits : (t c : ℕ) → t < 24 → c < 61 → place_of t c < 1464
 unfolding place_of
@@ -20,8 +19,3 @@ place_test t c u d h k l m e = omega arith
 pub place_column : (t c u d : ℕ) → t < 24 → c < 61 → u < 24 → d < 61 → place_of t c ≡ place_of u d → c ≡ d
 unfolding place_of
 place_column t c u d h k l m e = omega arith
-
--- the answer of a comparison, for whether the test separates
-pub separates_by : (out : ℕ → ℕ → ℕ) (a b t : ℕ) (r : Bool) → r ≡ agrees out a b t → not r ≡ separates out a b t
-unfolding separates
-separates_by out a b t r e = rw e

@@ -7,8 +7,7 @@ use lib.Dec.{lit≤}
 use lib.ListN.{get_or, replicate, length-replicate, get_or-replicate, get_or-eq_default}
 use Rattle.folds.proofs.Below.{lt_or_ge}
 use Rattle.table.specs.Table.{place_of, cell_at, empty_table}
-use Rattle.table.specs.WellFormed.{WellFormed}
-use Rattle.table.specs.OfType.{OfType}
+use Rattle.table.specs.WellFormed.{WellFormed, OfType}
 
 zeros : (n i : ℕ) → get_or {A = ℕ} (replicate n 0) i 0 ≡ 0
 zeros n i =
@@ -38,11 +37,9 @@ empty_formed = record {
 pub empty_typed : OfType empty_table
 unfolding empty_table
 empty_typed = record {
-  long = record {
-    cells = length-replicate {A = ℕ} 1464 0;
-    lines = length-replicate {A = ℕ} 60 0;
-    stuck = length-replicate {A = ℕ} 60 0;
-  };
+  cells_long = length-replicate {A = ℕ} 1464 0;
+  lines_long = length-replicate {A = ℕ} 60 0;
+  stuck_long = length-replicate {A = ℕ} 60 0;
   cells_bytes = λ i. omega (arith, zero_byte i);
   lines_bytes = λ f. omega (arith, zero_label f);
   stuck_bytes = λ f. omega (arith, zero_label f);

@@ -4,26 +4,29 @@ use mathlib.Core.List.{List}
 use mathlib.Core.Logic.{◌⊎◌, inl, inr, ⊎_elim}
 use mathlib.Core.Path.{◌≡◌, refl, sym, ◌∙◌}
 use Prim.Native.Nat.{ℕ, ◌+◌, ◌≤◌, ◌<◌}
+use native.Mathlib.Nat.{lt_of_le_of_lt}
 use native.Mathlib.Omega.{arith}
 use borrow.Author.Tests.{leb-true, leb-false, ltb-false, eqb-true, le-leb, lt-leb, lt-ltb, le-ltb, eq-eqb, not-true, not-false}
-use lib.Dec.{eqb, leb, ltb}
+use lib.Dec.{eqb, leb, ltb, lit<}
 use lib.ListN.{get_or}
+use mir.Syntax.{w64}
+use mir.Val.{Fits}
 use Rattle.folds.specs.Fold.{both, either, every}
 use Rattle.folds.proofs.Bools.{clash, both_true, both_left, both_right, both_false, both_no, no_both, either_second, tells_by, tells_no}
 use Rattle.folds.proofs.Below.{lt_or_ge}
 use Rattle.folds.proofs.Every.{every_at, every_of}
 use Rattle.table.specs.declared.Table.{Table}
-use Rattle.table.specs.Table.{cell_at, output_at, line_of, stuck_of}
-use Rattle.table.specs.WellFormed.{WellFormed, Tested}
-use Rattle.table.specs.Form.{other_label, new_label, label_right, cell_right, row_right, well_formed}
+use Rattle.table.specs.Table.{cell_at, output_at}
+use Rattle.table.specs.WellFormed.{WellFormed}
+use Rattle.table.specs.Test.{differ, fresh, label_right, cell_right, row_right, well_formed, Tested}
 
 -- ---- a table that passes is well formed
 
 module _ (lines stuck : List ℕ) (faults f : ℕ) where
-  used-label : f < faults → label_right lines stuck faults f ≡ true → (get_or stuck f 0 ≤ 1) × (new_label lines stuck f (get_or lines f 0) (get_or stuck f 0) ≡ true)
+  used-label : f < faults → label_right lines stuck faults f ≡ true → (get_or stuck f 0 ≤ 1) × (fresh lines stuck f ≡ true)
   unfolding label_right
   used-label l h =
-      let k : both (leb (get_or stuck f 0) 1) (new_label lines stuck f (get_or lines f 0) (get_or stuck f 0)) ≡ true = rw (lt-ltb f faults l) at h in
+      let k : both (leb (get_or stuck f 0) 1) (fresh lines stuck f) ≡ true = rw (lt-ltb f faults l) at h in
       (leb-true _ _ (both_left _ _ k), both_right (leb (get_or stuck f 0) 1) _ k)
 
   unused-label : faults ≤ f → label_right lines stuck faults f ≡ true → (get_or lines f 0 ≡ 0) × (get_or stuck f 0 ≡ 0)
@@ -32,10 +35,9 @@ module _ (lines stuck : List ℕ) (faults f : ℕ) where
       let k : both (eqb (get_or lines f 0) 0) (eqb (get_or stuck f 0) 0) ≡ true = rw (le-ltb f faults l) at h in
       (eqb-true _ _ (both_left _ _ k), eqb-true _ _ (both_right (eqb (get_or lines f 0) 0) _ k))
 
-new_differs : (lines stuck : List ℕ) (line value f g : ℕ) → new_label lines stuck f line value ≡ true → g < f → line ≡ get_or lines g 0 → value ≡ get_or stuck g 0 → ⊥
-unfolding new_label other_label
-new_differs lines stuck line value f g h l p q =
-    both_no _ _ (every_at (other_label lines stuck line value) f g h l) (eq-eqb _ _ (sym p)) (eq-eqb _ _ (sym q))
+fresh_differs : (lines stuck : List ℕ) (f g : ℕ) → fresh lines stuck f ≡ true → g < f → get_or lines f 0 ≡ get_or lines g 0 → get_or stuck f 0 ≡ get_or stuck g 0 → ⊥
+unfolding fresh differ
+fresh_differs lines stuck f g h l p q = both_no _ _ (every_at (differ lines stuck f) f g h l) (eq-eqb _ _ p) (eq-eqb _ _ q)
 
 unused : (tests faults t c : ℕ) → (tests ≤ t) ⊎ (faults + 1 ≤ c) → both (ltb t tests) (leb c faults) ≡ false
 unused tests faults t c (inl l) = rw (le-ltb t tests l)
@@ -57,7 +59,7 @@ formed tb h =
       tests_fit = leb-true _ _ (both_left _ _ h);
       faults_fit = faults;
       stuck_fit = λ f l. (used-label tb.lines tb.stuck tb.faults f l (label f (omega arith))).0;
-      distinct = λ f g l m p q. new_differs tb.lines tb.stuck _ _ f g (used-label tb.lines tb.stuck tb.faults f m (label f (omega arith))).1 l p q;
+      distinct = λ f g l m p q. fresh_differs tb.lines tb.stuck f g (used-label tb.lines tb.stuck tb.faults f m (label f (omega arith))).1 l p q;
       cells_clear = λ t c l m u. unused_cell tb.cells tb.tests tb.faults t c (every_at (row_right tb.cells tb.tests tb.faults) 24 t (both_right (every (label_right tb.lines tb.stuck tb.faults) 60) _ b) l) m u;
       labels_clear = λ f l m. unused-label tb.lines tb.stuck tb.faults f l (label f m);
     }
@@ -65,14 +67,14 @@ formed tb h =
 -- ---- a well-formed table passes
 
 module _ (tb : Table) (w : WellFormed tb) where
-  others : (f : ℕ) → f < tb.faults → (g : ℕ) → g < f → other_label tb.lines tb.stuck (line_of tb f) (stuck_of tb f) g ≡ true
-  unfolding other_label
-  others f m g l = no_both _ _ (λ p q. w.distinct f g l m (sym (eqb-true _ _ p)) (sym (eqb-true _ _ q)))
+  differs : (f : ℕ) → f < tb.faults → (g : ℕ) → g < f → differ tb.lines tb.stuck f g ≡ true
+  unfolding differ
+  differs f m g l = no_both _ _ (λ p q. w.distinct f g l m (eqb-true _ _ p) (eqb-true _ _ q))
 
   right-label : (f : ℕ) → f < 60 → label_right tb.lines tb.stuck tb.faults f ≡ true
-  unfolding label_right new_label
+  unfolding label_right fresh
   right-label f l = ⊎_elim
-      (λ m. rw (lt-ltb f tb.faults m) (both_true _ _ (le-leb _ _ (w.stuck_fit f m)) (every_of (other_label tb.lines tb.stuck (line_of tb f) (stuck_of tb f)) f (others f m))))
+      (λ m. rw (lt-ltb f tb.faults m) (both_true _ _ (le-leb _ _ (w.stuck_fit f m)) (every_of (differ tb.lines tb.stuck f) f (differs f m))))
       (λ m. let z = w.labels_clear f m l in rw (le-ltb f tb.faults m) (both_true _ _ (eq-eqb _ _ z.0) (eq-eqb _ _ z.1)))
       (lt_or_ge f tb.faults)
 
@@ -94,25 +96,19 @@ module _ (tb : Table) (w : WellFormed tb) where
       (every_of (row_right tb.cells tb.tests tb.faults) 24 (λ t m. every_of (cell_right tb.cells tb.tests tb.faults t) 61 (right-cell t m)))))
 
 pub tested_by : (tb : Table) (r : Bool) → r ≡ well_formed tb → Tested tb r
-tested_by tb r e = record { says = tells_by r (λ h. formed tb (sym e ∙ h)) (λ h w. clash r (e ∙ tested tb w) h) }
-
--- and what says whether the table is well formed is the test's answer
-pub test_said : (tb : Table) (r : Bool) → Tested tb r → r ≡ well_formed tb
-test_said tb true h = sym (tested tb h.says)
-test_said tb false h = sym (told-false (well_formed tb) refl)
-  where
-    told-false : (b : Bool) → well_formed tb ≡ b → well_formed tb ≡ false
-    told-false true e = absurd (h.says (formed tb e))
-    told-false false e = e
+tested_by tb r e = record {
+  says = tells_by r (λ h. formed tb (sym e ∙ h)) (λ h w. clash r (e ∙ tested tb w) h);
+  is = e;
+}
 
 -- ---- what a caller has past `if !well_formed(table) { return .. }`, and where it returns
 
 module _ (tb : Table) (r : Bool) (h : Tested tb r) where
   pub accepted : not r ≡ false → well_formed tb ≡ true
-  accepted n = sym (test_said tb r h) ∙ not-false r n
+  accepted n = sym h.is ∙ not-false r n
 
   pub rejected : not r ≡ true → well_formed tb ≡ false
-  rejected n = sym (test_said tb r h) ∙ not-true r n
+  rejected n = sym h.is ∙ not-true r n
 
   pub well : not r ≡ false → WellFormed tb
   well n = formed tb (accepted n)
@@ -122,3 +118,11 @@ module _ (tb : Table) (r : Bool) (h : Tested tb r) where
 
   pub few-tests : not r ≡ false → tb.tests ≤ 24
   few-tests n = (well n).tests_fit
+
+  pub few-columns : not r ≡ false → tb.faults + 1 ≤ 61
+  few-columns n = omega (arith, (well n).faults_fit)
+
+  pub columns-fit : not r ≡ false → Fits w64 (tb.faults + 1)
+  columns-fit n = record { fits = lt_of_le_of_lt (few-columns n) (lit< tt) }
+
+pub ruleset admits = (few-tests, few-columns, columns-fit)

@@ -6,8 +6,7 @@ use Rattle.table.specs.declared.Table.{Table}
 use Rattle.table.specs.declared.Refusal.{Refusal}
 use Rattle.table.specs.Answers.{number_of}
 use Rattle.table.specs.Table.{empty_table}
-use Rattle.table.proofs.Formed.{test_said}
-use Rattle.table.specs.WellFormed.{Tested}
+use Rattle.table.specs.Test.{Tested}
 
 pub empty_table_pins : (r₁ r₂ : Table) → r₁ ≡ empty_table → r₂ ≡ empty_table → r₁ ≡ r₂
 empty_table_pins r₁ r₂ a b = a ∙ sym b
@@ -16,4 +15,4 @@ pub number_pins : (why : Refusal) (r₁ r₂ : ℕ) → r₁ ≡ number_of why �
 number_pins why r₁ r₂ a b = a ∙ sym b
 
 pub well_formed_pins : (tb : Table) (r₁ r₂ : Bool) → Tested tb r₁ → Tested tb r₂ → r₁ ≡ r₂
-well_formed_pins tb r₁ r₂ a b = test_said tb r₁ a ∙ sym (test_said tb r₂ b)
+well_formed_pins tb r₁ r₂ a b = a.is ∙ sym b.is

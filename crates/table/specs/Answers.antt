@@ -1,7 +1,6 @@
 -- The paper's numbers and values of each answer, by cases. The sentences are document 01's.
 -- Assumes nothing.
-use Rattle.std.specs.Prelude.{List, ℕ, eqb, replicate}
-use Rattle.folds.specs.Fold.{whether}
+use Rattle.std.specs.Prelude.{ℕ}
 use Rattle.table.specs.declared.Refusal.{Refusal}
 use Rattle.table.specs.declared.Refusal.TheVariants.{UnknownKind, BodyCut, NoEnd, OutOfPlace, TooMany, StuckValue, SameLabel, NotInBook, NotAfter, RepeatsCorrect, WrongCounts, BytesFollow, NotWellFormed, UnknownTest, CapTooHigh, NoneWithinCap, BufferShort, NotOneEach}
 use Rattle.table.specs.declared.Verdict.{Verdict}
@@ -52,20 +51,7 @@ number_of BufferShort = 24
 -- observed outputs are not one for each test of the set
 number_of NotOneEach = 25
 
--- "a cap above 24"
-abbrev pub cap_limit : ℕ
-cap_limit = 24
-
--- ---- "An accepted call's number is 0." "A refused call returns the number with the empty set, list or count 0."
-
--- of an accepted call a, of a refused one b
-abbrev pub accept : {A : Type 0} → ℕ → A → A → A
-accept number a b = whether (eqb number 0) a b
-
--- the empty list of columns or of their class numbers: places for 61, all zero
-unfoldable pub unlisted : List ℕ
-unlisted = replicate 61 0
-
+-- "An accepted call's number is 0." "A refused call returns the number with the empty set, list or count 0."
 abbrev pub verdict_number : Verdict → ℕ
 verdict_number verdict.Accepted = 0
 verdict_number (verdict.Refused why) = number_of why

@@ -1,5 +1,4 @@
 pub mod Table
 pub mod WellFormed
-pub mod OfType
-pub mod Form
+pub mod Test
 pub mod Answers

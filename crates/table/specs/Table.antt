@@ -1,6 +1,6 @@
 -- What a table holds: outputs by test and column, and labels. The sentences are document 01's.
 -- Assumes nothing.
-use Rattle.std.specs.Prelude.{Bool, not, List, ℕ, ◌+◌, ◌*◌, eqb, get_or, replicate}
+use Rattle.std.specs.Prelude.{List, ℕ, ◌+◌, ◌*◌, get_or, replicate}
 use Rattle.table.specs.declared.Table.{Table}
 
 -- The one definition that knows how the cells lie: row by row.
@@ -14,14 +14,6 @@ cell_at cells t c = get_or cells (place_of t c) 0
 -- the output of test t in column c, of a table
 abbrev pub output_at : Table → ℕ → ℕ → ℕ
 output_at tb t c = cell_at tb.cells t c
-
--- test t gives the columns a and b one output, where `out t c` is the output of test t in column c
-unfoldable pub agrees : (ℕ → ℕ → ℕ) → ℕ → ℕ → ℕ → Bool
-agrees out a b t = eqb (out t a) (out t b)
-
--- "A test separates two columns when their outputs differ."
-unfoldable pub separates : (ℕ → ℕ → ℕ) → ℕ → ℕ → ℕ → Bool
-separates out a b t = not (agrees out a b t)
 
 -- "A column is the healthy card (column 0) or fault f (column f + 1)."
 abbrev pub columns : Table → ℕ
@@ -38,8 +30,3 @@ stuck_of tb f = get_or tb.stuck f 0
 unfoldable pub empty_table : Table
 empty_table =
     record { tests = 0; faults = 0; cells = replicate 1464 0; lines = replicate 60 0; stuck = replicate 60 0 }
-
--- the table tb with these counts, cells and labels: whatever else it holds stays
-abbrev pub table_with : Table → ℕ → ℕ → List ℕ → List ℕ → List ℕ → Table
-table_with tb tests faults cells lines stuck =
-    record { tests = tests; faults = faults; cells = cells; lines = lines; stuck = stuck }

@@ -1,9 +1,8 @@
 -- Well-formed tables. The sentences are document 01's.
 -- Assumes nothing.
-use Rattle.std.specs.Prelude.{◌⊎◌, ◌≡◌, ℕ, ◌≤◌, ◌<◌, Bool}
+use Rattle.std.specs.Prelude.{◌⊎◌, ◌≡◌, ℕ, ◌≤◌, ◌<◌, length, get_or}
 use Rattle.table.specs.declared.Table.{Table}
 use Rattle.table.specs.Table.{output_at, columns, line_of, stuck_of}
-use Rattle.folds.specs.Fold.{Tells}
 
 -- "A table is well formed when
 pub record WellFormed (tb : Table) : Type 0 where
@@ -18,6 +17,11 @@ pub record WellFormed (tb : Table) : Type 0 where
   pub cells_clear : (t c : ℕ) → t < 24 → c < 61 → (tb.tests ≤ t) ⊎ (columns tb ≤ c) → output_at tb t c ≡ 0
   pub labels_clear : (f : ℕ) → tb.faults ≤ f → f < 60 → (line_of tb f ≡ 0) × (stuck_of tb f ≡ 0)
 
--- r says whether the table is well formed
-pub record Tested (tb : Table) (r : Bool) : Type 0 where
-  pub says : Tells r (WellFormed tb)
+-- What every value of the type has, which the lists of this logic do not say by themselves: the arrays' lengths, and bytes.
+pub record OfType (tb : Table) : Type 0 where
+  pub cells_long : length tb.cells ≡ 1464
+  pub lines_long : length tb.lines ≡ 60
+  pub stuck_long : length tb.stuck ≡ 60
+  pub cells_bytes : (i : ℕ) → get_or tb.cells i 0 < 256
+  pub lines_bytes : (f : ℕ) → line_of tb f < 256
+  pub stuck_bytes : (f : ℕ) → stuck_of tb f < 256

@@ -1,7 +1,33 @@
 // The clauses of a well-formed table, each as a test.
 ghost use Rattle.std.specs.Prelude.{◌≡◌, ◌≤◌, ◌<◌};
 ghost use Rattle.folds.specs.Fold.{every};
-ghost use Rattle.table.specs.Form.{label_right, cell_right, row_right};
+ghost use Rattle.table.specs.Test.{differ, fresh, label_right, cell_right, row_right};
+
+// Whether the faults f and g differ in line or value.
+fn differ<'a>(lines: &'a [u8; 60], stuck: &'a [u8; 60], f: usize, g: usize) -> bool
+    requires { (f < 60) × (g < 60) }
+    ensures { result ≡ differ lines.now stuck.now f g }
+{
+    if lines[f] != lines[g] {
+        return true;
+    }
+    stuck[f] != stuck[g]
+}
+
+// Whether fault f differs from every earlier one.
+fn fresh<'a>(lines: &'a [u8; 60], stuck: &'a [u8; 60], f: usize) -> bool
+    requires { f < 60 }
+    ensures { result ≡ fresh lines.now stuck.now f }
+{
+    let mut i = 0;
+    while i < f {
+        if !differ(lines, stuck, f, i) {
+            return false;
+        }
+        i += 1;
+    }
+    true
+}
 
 // Whether the label f is a new fault's, with a stuck value of 0 or 1; or zero, where f is no fault.
 fn label_right<'a>(lines: &'a [u8; 60], stuck: &'a [u8; 60], faults: usize, f: usize) -> bool
@@ -17,7 +43,7 @@ fn label_right<'a>(lines: &'a [u8; 60], stuck: &'a [u8; 60], faults: usize, f: u
     if stuck[f] > 1 {
         return false;
     }
-    crate::inner::new_label(lines, stuck, f, lines[f], stuck[f])
+    fresh(lines, stuck, f)
 }
 
 pub fn labels_right<'a>(lines: &'a [u8; 60], stuck: &'a [u8; 60], faults: usize) -> bool

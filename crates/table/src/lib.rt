@@ -2,13 +2,10 @@
 ghost use Rattle.std.specs.Prelude.{◌≡◌};
 ghost use Rattle.table.specs.Answers.{number_of};
 ghost use Rattle.table.specs.Table.{empty_table};
-ghost use Rattle.table.specs.WellFormed.{Tested};
+ghost use Rattle.table.specs.Test.{Tested};
 
 mod form;
 pub mod inner;
-
-// The highest cap that a choice may have.
-pub const CAP_LIMIT: u32 = 24;
 
 // Column 0 is the healthy card, column f + 1 the card with fault f.
 #[derive(Drop)]

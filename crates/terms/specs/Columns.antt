@@ -1,12 +1,15 @@
 -- What is computed of outputs: which columns are alike, their classes, their signatures. `out t c` is the output of test t
 -- in column c; a table's is `output_at tb`. The sentences are document 01's.
 -- Assumes nothing.
-use Rattle.std.specs.Prelude.{Bool, not, List, ℕ}
+use Rattle.std.specs.Prelude.{Bool, not, List, ℕ, eqb}
 use Rattle.folds.specs.Fold.{every, count, first, gather}
 use Rattle.sets.specs.Sets.{has}
-use Rattle.table.specs.Table.{agrees}
 
 module _ (out : ℕ → ℕ → ℕ) where
+  -- test t gives the columns a and b one output
+  unfoldable pub agrees : ℕ → ℕ → ℕ → Bool
+  agrees a b t = eqb (out t a) (out t b)
+
   -- column c's output in test t
   unfoldable pub outputOf : ℕ → ℕ → ℕ
   outputOf c t = out t c
@@ -14,7 +17,7 @@ module _ (out : ℕ → ℕ → ℕ) where
   module _ (tests : ℕ) where
     -- no test separates the columns a and b
     unfoldable pub alike : ℕ → ℕ → Bool
-    alike a b = every (agrees out a b) tests
+    alike a b = every (agrees a b) tests
 
     unfoldable pub apart : ℕ → ℕ → Bool
     apart a b = not (alike a b)

@@ -9,9 +9,8 @@ use Rattle.folds.proofs.Decide.{Decided, LeastBelow, least-exists}
 use Rattle.sets.specs.Sets.{bit, Within, weight, size, one, Before, Precedes}
 use Rattle.sets.proofs.Bits.{bit_cases, bit_below, bit_zero, below_of_bits, full, full_lt, full_bit}
 use Rattle.sets.proofs.Flip.{flip, flip_out, flip_in, flip_other}
-use Rattle.sets.proofs.Weight.{one_is, one_most, one_counts, weight-out, weight-in}
+use Rattle.sets.proofs.Weight.{one_is, one_positive, weight-out, weight-in}
 use Rattle.sets.proofs.Order.{precedes-weight, precedes-antisym, precedes-trans, precedes-total, empty-first}
-use Rattle.table.specs.Answers.{cap_limit}
 use Rattle.table.specs.WellFormed.{WellFormed}
 use Rattle.table.specs.declared.Goal.{Goal}
 use Rattle.table.specs.declared.Table.{Table}
@@ -21,19 +20,22 @@ use Rattle.terms_laws.proofs.Decided.{decided-reaches, decided-aside}
 
 -- ---- there is exactly one
 
-pub choice_one : (w : ℕ → ℕ) (tb : Table) (goal : Goal) (allowed : ℕ → Type 0) (s s' : ℕ) → IsChoice w tb goal allowed s → IsChoice w tb goal allowed s' → s ≡ s'
-choice_one w tb goal allowed s s' c c' =
-    precedes-antisym w s s' (c.first s' c'.within c'.reaches) (c'.first s c.within c.reaches)
+pub choice_one : (tb : Table) (goal : Goal) (allowed : ℕ → Type 0) (s s' : ℕ) → IsChoice tb goal allowed s → IsChoice tb goal allowed s' → s ≡ s'
+choice_one tb goal allowed s s' c c' =
+    precedes-antisym (test_weight tb) s s' (c.first s' c'.within c'.reaches) (c'.first s c.within c.reaches)
 
 -- all tests together separate whatever some test separates
 full_reaches : (tb : Table) (goal : Goal) → Reaches tb goal (full tb.tests)
 full_reaches tb goal a b p (t, l, sep) = (t, l, full_bit tb.tests t l, sep)
 
-pub choice_exists : (w : ℕ → ℕ) (tb : Table) (goal : Goal) → (s : ℕ) × IsChoice w tb goal (TestOf tb) s
-choice_exists w tb goal = go (least-exists (Reaches tb goal) (Precedes w) (decided-reaches tb goal) (2 ^ tb.tests) (precedes-total w tb.tests) (precedes-trans w)
+pub choice_exists : (tb : Table) (goal : Goal) → (s : ℕ) × Choice tb goal s
+choice_exists tb goal = go (least-exists (Reaches tb goal) (Precedes w) (decided-reaches tb goal) (2 ^ tb.tests) (precedes-total w tb.tests) (precedes-trans w)
     (2 ^ tb.tests) (full tb.tests) (le_refl _) (full_lt tb.tests) (full_reaches tb goal))
   where
-    go : ((s : ℕ) × LeastBelow (Reaches tb goal) (Precedes w) (2 ^ tb.tests) s) → (s : ℕ) × IsChoice w tb goal (TestOf tb) s
+    w : ℕ → ℕ
+    w = test_weight tb
+
+    go : ((s : ℕ) × LeastBelow (Reaches tb goal) (Precedes w) (2 ^ tb.tests) s) → (s : ℕ) × Choice tb goal s
     go (s, l) = (
       s,
       record {
@@ -43,33 +45,22 @@ choice_exists w tb goal = go (least-exists (Reaches tb goal) (Precedes w) (decid
       },
     )
 
--- ---- what the promise says of the weight and of the order
+-- ---- what the promise says of the number of tests and of the order
 
-module _ (w : ℕ → ℕ) (tb : Table) (goal : Goal) (s s' : ℕ) (c : IsChoice w tb goal (TestOf tb) s) (h : Within (TestOf tb) s') (r : Reaches tb goal s') where
-  pub choice-lightest : weight w s ≤ weight w s'
-  choice-lightest = precedes-weight w s s' (c.first s' h r)
+pub choice_fewest : (tb : Table) (goal : Goal) (s s' : ℕ) → Choice tb goal s → Within (TestOf tb) s' → Reaches tb goal s' → size s ≤ size s'
+choice_fewest tb goal s s' c h r = precedes-weight one s s' (c.first s' h r)
 
-  pub choice-first : weight w s ≡ weight w s' → (s ≡ s') ⊎ Before s s'
-  choice-first e = go (c.first s' h r)
-    where
-      go : Precedes w s s' → (s ≡ s') ⊎ Before s s'
-      go (inl l) = absurd (omega arith)
-      go (inr (n, o)) = o
-
--- each test weighs 1: no set that reaches the goal has fewer tests
-pub choice_fewest : (tb : Table) → WellFormed tb → (goal : Goal) (s s' : ℕ) → Choice tb goal s → Within (TestOf tb) s' → Reaches tb goal s' → size s tb.tests ≤ size s' tb.tests
-choice_fewest tb formed goal s s' c h r =
-    let counts : (x : ℕ) → Within (TestOf tb) x → weight one x ≡ size x tb.tests = λ x m. one_counts tb.tests x formed.tests_fit (below_of_bits tb.tests x m) in
-    omega (arith, choice-lightest one tb goal s s' c h r, counts s c.within, counts s' h)
-
--- no set weighs more than the highest cap
-pub weight_capped : (tb : Table) (s : ℕ) → weight (test_weight tb) s ≤ cap_limit
-weight_capped tb s = one_most s
+pub choice_first : (tb : Table) (goal : Goal) (s s' : ℕ) → Choice tb goal s → Within (TestOf tb) s' → Reaches tb goal s' → size s ≡ size s' → (s ≡ s') ⊎ Before s s'
+choice_first tb goal s s' c h r e = go (c.first s' h r)
+  where
+    go : Precedes one s s' → (s ≡ s') ⊎ Before s s'
+    go (inl l) = absurd (omega arith)
+    go (inr (n, o)) = o
 
 -- ---- what setting aside leans on: how one test outdoes another
 
-pub weight_positive : (tb : Table) (t : ℕ) → 0 < test_weight tb t
-weight_positive tb t = omega (arith, one_is t)
+weight_positive : (tb : Table) (t : ℕ) → 0 < test_weight tb t
+weight_positive tb t = one_positive t
 
 -- a number that falls from each test to one that outdoes it
 rank : Table → ℕ → ℕ
@@ -153,7 +144,7 @@ aside_out tb formed goal s t c a = ⊎_elim (λ e. e) (λ e. absurd (strike tb f
 
 -- ---- striking out the set-aside tests
 
-kept_only : (tb : Table) → WellFormed tb → (goal : Goal) (s : ℕ) → Choice tb goal s → IsChoice (test_weight tb) tb goal (Kept tb goal) s
+kept_only : (tb : Table) → WellFormed tb → (goal : Goal) (s : ℕ) → Choice tb goal s → IsChoice tb goal (Kept tb goal) s
 kept_only tb formed goal s c = record {
   within = λ t e. (c.within t e, λ a. omega (arith, aside_out tb formed goal s t c a));
   reaches = c.reaches;
@@ -161,12 +152,12 @@ kept_only tb formed goal s c = record {
 }
 
 -- the choice is the choice among the kept tests, and the other way round
-pub strike_out : (tb : Table) → WellFormed tb → (goal : Goal) (s : ℕ) → (Choice tb goal s → IsChoice (test_weight tb) tb goal (Kept tb goal) s) × (IsChoice (test_weight tb) tb goal (Kept tb goal) s → Choice tb goal s)
+pub strike_out : (tb : Table) → WellFormed tb → (goal : Goal) (s : ℕ) → (Choice tb goal s → IsChoice tb goal (Kept tb goal) s) × (IsChoice tb goal (Kept tb goal) s → Choice tb goal s)
 strike_out tb formed goal s = (
   kept_only tb formed goal s,
   λ c.
-      let all = choice_exists (test_weight tb) tb goal in
-      subst (Choice tb goal) (choice_one (test_weight tb) tb goal (Kept tb goal) all.0 s (kept_only tb formed goal all.0 all.1) c) all.1,
+      let all = choice_exists tb goal in
+      subst (Choice tb goal) (choice_one tb goal (Kept tb goal) all.0 s (kept_only tb formed goal all.0 all.1) c) all.1,
 )
 
 -- ---- striking out loses no goal pair

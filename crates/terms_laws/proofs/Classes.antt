@@ -16,10 +16,10 @@ use Rattle.folds.proofs.Count.{count_none, count_le, count_less, count_reaches}
 use Rattle.folds.proofs.First.{first_found, first_none, first_below, first_has, first_le}
 use Rattle.folds.proofs.Gather.{gather_get, gather_agree}
 use Rattle.sets.specs.Sets.{has}
-use Rattle.table.specs.Table.{agrees, output_at, columns}
+use Rattle.table.specs.Table.{output_at, columns}
 use Rattle.table.specs.WellFormed.{WellFormed}
 use Rattle.table.specs.declared.Table.{Table}
-use Rattle.terms.specs.Columns.{outputOf, alike, apart, lowest, lowestOf, classNumber, outputsUnder}
+use Rattle.terms.specs.Columns.{agrees, outputOf, alike, apart, lowest, lowestOf, classNumber, outputsUnder}
 use Rattle.terms.specs.Terms.{Alike, Undetectable, class_count, class_of}
 
 module _ (out : ℕ → ℕ → ℕ) (tests : ℕ) where

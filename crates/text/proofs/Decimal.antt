@@ -8,7 +8,7 @@ use native.Mathlib.Omega.{arith}
 use borrow.Author.Tests.{le-ltb, lt-ltb}
 use lib.ListN.{get_or, length, length-append, get_or-append}
 use Rattle.folds.proofs.Below.{lt_or_ge}
-use Rattle.text.specs.Decimal.{decimal_of, digits}
+use Rattle.text.specs.Text.{decimal_of, digits}
 
 -- more digits than are needed change nothing
 enough : (k m n : ℕ) → n < k → n < m → digits k n ≡ digits m n

@@ -11,8 +11,7 @@ use lib.Seq.{length-sets, set_out, sets, sets-eq, take_all, take-suc}
 use Rattle.folds.proofs.Below.{lt_or_ge}
 use Rattle.folds.specs.Fold.{onto}
 use Rattle.text.proofs.Decimal.{decimal_more, decimal_one}
-use Rattle.text.specs.Decimal.{decimal_of}
-use Rattle.text.specs.Writes.{Writes}
+use Rattle.text.specs.Text.{Writes, decimal_of}
 
 sets_append : (b xs ys : List ℕ) (at : ℕ) → sets (sets b at xs) (at + length xs) ys ≡ sets b at (xs ++ ys)
 sets_append b [] ys at = ap (λ (k : ℕ). sets b k ys) (add-zero at)

@@ -1,7 +1,6 @@
 // Each call writes a piece at a place and gives the place behind it. What lies past the buffer's end is left out.
 ghost use Rattle.std.specs.Prelude.{[], ◌∷◌};
-ghost use Rattle.text.specs.Decimal.{decimal_of};
-ghost use Rattle.text.specs.Writes.{Writes};
+ghost use Rattle.text.specs.Text.{Writes, decimal_of};
 
 pub fn put(buf: &mut [u8], at: usize, byte: u8) -> usize
     ensures { Writes at (byte ∷ []) buf.old result buf.new }

@@ -1,6 +1,6 @@
 pub mod Goals
 pub mod Pins
-pub mod Version
 pub mod Buffers
 pub mod Laid
+pub mod Marked
 pub mod Read

@@ -1,32 +1,25 @@
 -- The promise of each call leaves one result. Assumes nothing.
-use mathlib.Core.List.{List, []}
-use mathlib.Core.Logic.{inl, inr, ⊎_elim}
+use mathlib.Core.List.{List}
+use mathlib.Core.Logic.{inl, inr}
 use mathlib.Core.Path.{◌≡◌, sym, ap, ◌∙◌}
 use Prim.Native.Nat.{ℕ}
 use native.Mathlib.Omega.{arith}
 use lib.ListN.{length}
-use Rattle.folds.specs.Fold.{onto}
-use Rattle.folds.proofs.Below.{eq_or_ne}
-use Rattle.table.specs.Answers.{accept, chosen_number, chosen_set}
+use Rattle.table.specs.Answers.{chosen_number, chosen_set}
 use Rattle.table.specs.declared.Chosen.{Chosen}
 use Rattle.table.specs.declared.Goal.{Goal}
 use Rattle.table.specs.declared.Table.{Table}
-use Rattle.asks.specs.Asks.{Ask, table_asks, set_asks}
-use Rattle.asks.proofs.Numbered.{numbered_one}
-use Rattle.lent.specs.Lent.{room_asks}
-use Rattle.dictionary.specs.Dictionary.{dictionary_of}
-use Rattle.witness.specs.Witness.{sheet_of}
-use Rattle.suspects.proofs.Pins.{suspects_of_pins}
+use Rattle.table.specs.declared.Verdict.{Verdict}
+use Rattle.table.specs.declared.Verdict.TheVariants.{Accepted, Refused}
 use Rattle.book.specs.Reading.{read_book}
 use Rattle.cover.proofs.Pins.{set_aside_pins, essential_pins}
-use Rattle.classes.proofs.Pins.{classify_pins, undetectable_pins}
+use Rattle.classes.proofs.Pins.{undetectable_pins}
 use Rattle.choice.proofs.Pins.{choose-pins}
 use Rattle.report.proofs.Pins.{text_one}
 use Rattle.flat.specs.Flat.{lent_table, bytes_of}
-use Rattle.flat.specs.Packed.{packed, call_number, call_value, goal_of}
+use Rattle.flat.specs.Packed.{packed, goal_of}
 use Rattle.flat.specs.Writes.{CallWrites}
-use Rattle.flat.proofs.Numbers.{answer_parts}
-use Rattle.tockbronze.specs.Calls.{ForGoal, GivesAside, GivesEssential, GivesChoice, AsideCall, EssentialCall, ChooseCall, CallCounts, ClassesCall, DictionaryCall, SheetCall, SuspectsCall, ReportCall, UndetectableCall, ReadCall}
+use Rattle.tockbronze.specs.Calls.{ForGoal, GivesAside, GivesEssential, GivesChoice, AsideCall, EssentialCall, ChooseCall, CallCounts, ClassesCall, DictionaryCall, SheetCall, SuspectsCall, ReportCall, MarksWritten, UndetectableCall, ReadWritten, ReadCall}
 
 -- where the library's own call leaves one answer, the call for a goal leaves one number
 for_goal_pins : (Given : Table → Goal → Chosen → Type 0)
@@ -36,8 +29,7 @@ for_goal_pins Given one bytes goal r₁ r₂ (inl (h, p)) (inl (k, q)) =
     p.is ∙ (ap (λ (a : Chosen). packed (chosen_number a) (chosen_set a)) (one (lent_table bytes) (goal_of goal) p.answer q.answer p.given q.given) ∙ sym q.is)
 for_goal_pins Given one bytes goal r₁ r₂ (inl (h, p)) (inr (k, q)) = absurd (omega arith)
 for_goal_pins Given one bytes goal r₁ r₂ (inr (h, p)) (inl (k, q)) = absurd (omega arith)
-for_goal_pins Given one bytes goal r₁ r₂ (inr (h, p)) (inr (k, q)) =
-    p.is ∙ ap (λ (n : ℕ). packed (accept n 99 n) 0) (numbered_one (table_asks (lent_table bytes)) p.earlier q.earlier p.asked q.asked) ∙ sym q.is
+for_goal_pins Given one bytes goal r₁ r₂ (inr (h, p)) (inr (k, q)) = p ∙ sym q
 
 module _ (bytes : List ℕ) (goal : ℕ) where
   pub tockbronze-set-aside-pins : (r₁ r₂ : ℕ) → AsideCall bytes goal r₁ → AsideCall bytes goal r₂ → r₁ ≡ r₂
@@ -51,44 +43,35 @@ module _ (bytes : List ℕ) (goal : ℕ) where
 
 -- ---- the calls that write to a lent buffer: one number and one buffer
 
-call_pins : (earlier : List Ask) (value : ℕ) (answer d : List ℕ) (r₁ r₂ : ℕ) (e₁ e₂ : List ℕ) → CallWrites earlier value answer d r₁ e₁ → CallWrites earlier value answer d r₂ e₂ → (r₁ ≡ r₂) × (e₁ ≡ e₂)
-call_pins earlier value answer d r₁ r₂ e₁ e₂ a b =
-    let n : call_number r₁ ≡ call_number r₂ = numbered_one (room_asks earlier answer d) (call_number r₁) (call_number r₂) a.number b.number in
-    let v : call_value r₁ ≡ call_value r₂ = a.worth ∙ ap (λ (m : ℕ). accept m value 0) n ∙ sym b.worth in (
-      sym (answer_parts r₁) ∙ (λ i. packed (n i) (v i)) ∙ answer_parts r₂,
-      a.buffer ∙ ap (λ (m : ℕ). accept m (onto answer d) d) n ∙ sym b.buffer,
-    )
+call_pins : (earlier value : ℕ) (answer d : List ℕ) (r₁ r₂ : ℕ) (e₁ e₂ : List ℕ) → CallWrites earlier value answer d r₁ e₁ → CallWrites earlier value answer d r₂ e₂ → (r₁ ≡ r₂) × (e₁ ≡ e₂)
+call_pins earlier value answer d r₁ r₂ e₁ e₂ a b = (a.is ∙ sym b.is, a.buffer ∙ sym b.buffer)
 
 module _ (bytes d : List ℕ) (r₁ r₂ : ℕ) (e₁ e₂ : List ℕ) where
+  pub tockbronze-classes-pins : ClassesCall bytes d r₁ e₁ → ClassesCall bytes d r₂ e₂ → (r₁ ≡ r₂) × (e₁ ≡ e₂)
+  tockbronze-classes-pins = call_pins _ _ _ d r₁ r₂ e₁ e₂
+
   pub tockbronze-dictionary-pins : (s : ℕ) → DictionaryCall bytes s d r₁ e₁ → DictionaryCall bytes s d r₂ e₂ → (r₁ ≡ r₂) × (e₁ ≡ e₂)
-  tockbronze-dictionary-pins s = call_pins (set_asks (lent_table bytes) s) _ (dictionary_of (lent_table bytes) s) d r₁ r₂ e₁ e₂
+  tockbronze-dictionary-pins s = call_pins _ _ _ d r₁ r₂ e₁ e₂
 
   pub tockbronze-witness-sheet-pins : (s : ℕ) → SheetCall bytes s d r₁ e₁ → SheetCall bytes s d r₂ e₂ → (r₁ ≡ r₂) × (e₁ ≡ e₂)
-  tockbronze-witness-sheet-pins s = call_pins (set_asks (lent_table bytes) s) _ (sheet_of (lent_table bytes) s) d r₁ r₂ e₁ e₂
-
-  pub tockbronze-classes-pins : ClassesCall bytes d r₁ e₁ → ClassesCall bytes d r₂ e₂ → (r₁ ≡ r₂) × (e₁ ≡ e₂)
-  tockbronze-classes-pins a b =
-      let q : a.answer ≡ b.answer = classify_pins (lent_table bytes) a.answer b.answer a.given b.given in
-      call_pins _ _ _ d r₁ r₂ e₁ e₂ (rw q at a.writes) b.writes
+  tockbronze-witness-sheet-pins s = call_pins _ _ _ d r₁ r₂ e₁ e₂
 
   pub tockbronze-suspects-pins : (s : ℕ) (seen : List ℕ) → SuspectsCall bytes s seen d r₁ e₁ → SuspectsCall bytes s seen d r₂ e₂ → (r₁ ≡ r₂) × (e₁ ≡ e₂)
-  tockbronze-suspects-pins s seen a b =
-      let q : a.answer ≡ b.answer = suspects_of_pins (lent_table bytes) s seen a.answer b.answer a.given b.given in
-      call_pins _ _ _ d r₁ r₂ e₁ e₂ (rw q at a.writes) b.writes
-
-  pub tockbronze-undetectable-pins : UndetectableCall bytes d r₁ e₁ → UndetectableCall bytes d r₂ e₂ → (r₁ ≡ r₂) × (e₁ ≡ e₂)
-  tockbronze-undetectable-pins a b =
-      let q : a.answer ≡ b.answer = undetectable_pins (lent_table bytes) a.answer b.answer a.given b.given in
-      call_pins _ _ _ d r₁ r₂ e₁ e₂ (rw q at a.writes) b.writes
+  tockbronze-suspects-pins s seen = call_pins _ _ _ d r₁ r₂ e₁ e₂
 
 pub tockbronze_report_pins : (book d : List ℕ) (r₁ r₂ : ℕ) (e₁ e₂ : List ℕ) → ReportCall book d r₁ e₁ → ReportCall book d r₂ e₂ → (r₁ ≡ r₂) × (e₁ ≡ e₂)
 tockbronze_report_pins book d r₁ r₂ e₁ e₂ a b =
-    let w : CallCounts [] b.text d r₁ e₁ = rw (text_one book a.text b.text a.is_text b.is_text) at a.writes in
-    call_pins [] (length b.text) b.text d r₁ r₂ e₁ e₂ w b.writes
+    let w : CallCounts 0 b.text d r₁ e₁ = rw (text_one book a.text b.text a.is_text b.is_text) at a.writes in
+    call_pins 0 (length b.text) b.text d r₁ r₂ e₁ e₂ w b.writes
+
+pub tockbronze_undetectable_pins : (bytes d : List ℕ) (r₁ r₂ : ℕ) (e₁ e₂ : List ℕ) → UndetectableCall bytes d r₁ e₁ → UndetectableCall bytes d r₂ e₂ → (r₁ ≡ r₂) × (e₁ ≡ e₂)
+tockbronze_undetectable_pins bytes d r₁ r₂ e₁ e₂ a b =
+    let w : MarksWritten (lent_table bytes) b.answer d r₁ e₁ = rw (undetectable_pins (lent_table bytes) a.answer b.answer a.given b.given) at a.writes in
+    call_pins _ _ _ d r₁ r₂ e₁ e₂ w b.writes
 
 pub tockbronze_read_pins : (book d : List ℕ) (r₁ r₂ : ℕ) (e₁ e₂ : List ℕ) → ReadCall book d r₁ e₁ → ReadCall book d r₂ e₂ → (r₁ ≡ r₂) × (e₁ ≡ e₂)
-tockbronze_read_pins book d r₁ r₂ e₁ e₂ a b =
-    ⊎_elim
-    (λ (z : (read_book book).number ≡ 0). call_pins [] (read_book book).place (bytes_of (read_book book).table) d r₁ r₂ e₁ e₂ (a.accepted z) (b.accepted z))
-    (λ (n : (read_book book).number ≡ 0 → ⊥). ((a.refused n).0 ∙ sym (b.refused n).0, (a.refused n).1 ∙ sym (b.refused n).1))
-    (eq_or_ne (read_book book).number 0)
+tockbronze_read_pins book d r₁ r₂ e₁ e₂ = by (read_book book).verdict
+  where
+    by : (v : Verdict) → ReadWritten v (read_book book).place (read_book book).table d r₁ e₁ → ReadWritten v (read_book book).place (read_book book).table d r₂ e₂ → (r₁ ≡ r₂) × (e₁ ≡ e₂)
+    by Accepted a b = call_pins 0 (read_book book).place (bytes_of (read_book book).table) d r₁ r₂ e₁ e₂ a b
+    by (Refused why) (p, q) (p', q') = (p ∙ sym p', q ∙ sym q')

@@ -1,29 +1,31 @@
 -- What each call gives.
 -- Assumes nothing.
-use Rattle.std.specs.Prelude.{List, [], ◌⊎◌, ◌≡◌, ℕ, ◌≤◌, ◌<◌, length, take}
-use Rattle.folds.specs.Fold.{listed}
-use Rattle.sets.specs.Sets.{bit, size}
-use Rattle.table.specs.Answers.{chosen_number, chosen_set, faults_set}
+use Rattle.std.specs.Prelude.{List, ◌⊎◌, ◌≡◌, ℕ, ◌≤◌, ◌<◌, length, take}
+use Rattle.folds.specs.Fold.{listed, total}
+use Rattle.sets.specs.Sets.{bit}
+use Rattle.lent.specs.Lent.{set_number}
+use Rattle.table.specs.Answers.{number_of, verdict_number, chosen_number, chosen_set, faults_number, faults_set}
 use Rattle.table.specs.Table.{columns}
 use Rattle.table.specs.declared.Chosen.{Chosen}
 use Rattle.table.specs.declared.Classes.{Classes}
-use Rattle.table.specs.declared.Faults.{Faults}
-use Rattle.table.specs.declared.Goal.{Goal}
 use Rattle.table.specs.declared.Suspects.{Suspects}
+use Rattle.table.specs.declared.Goal.{Goal}
 use Rattle.table.specs.declared.Table.{Table}
 use Rattle.terms.specs.Terms.{Essential}
-use Rattle.asks.specs.Asks.{Ask, table_asks, set_asks}
+use Rattle.cover.specs.Answer.{Gives, AsideTest}
+use Rattle.choice.specs.Answer.{ChoiceIs}
 use Rattle.book.specs.Reading.{read_book}
-use Rattle.classes.specs.Classes.{ClassesAre}
+use Rattle.table.specs.declared.Verdict.{Verdict}
+use Rattle.table.specs.declared.Verdict.TheVariants.{Accepted, Refused}
+use Rattle.classes.specs.Classes.{classes_of}
 use Rattle.classes.specs.Undetectable.{UndetectableIn}
-use Rattle.cover.specs.Gives.{Gives, AsideTest}
-use Rattle.choice.specs.ChoiceIs.{ChoiceIs}
+use Rattle.table.specs.declared.Faults.{Faults}
+use Rattle.suspects.specs.Suspects.{suspects_of}
 use Rattle.dictionary.specs.Dictionary.{dictionary_of}
 use Rattle.witness.specs.Witness.{sheet_of}
-use Rattle.suspects.specs.Suspects.{seen_asks, SuspectsAre}
-use Rattle.report.specs.Report.{IsText}
+use Rattle.report.specs.Answer.{IsText}
 use Rattle.flat.specs.Flat.{lent_table, bytes_of}
-use Rattle.flat.specs.Packed.{packed, goal_of, NoGoal}
+use Rattle.flat.specs.Packed.{packed, goal_of, unknown_goal}
 use Rattle.flat.specs.Writes.{CallWrites}
 
 -- r is the answer that the library's own call gives, as one number
@@ -36,13 +38,13 @@ pub record FromChosen (Given : Chosen → Type 0) (r : ℕ) : Type 0 where
 abbrev pub ForGoal : (Table → Goal → Chosen → Type 0) → List ℕ → ℕ → ℕ → Type 0
 ForGoal Given bytes goal r =
     ((goal ≤ 1) × FromChosen (Given (lent_table bytes) (goal_of goal)) r)
-    ⊎ ((1 < goal) × NoGoal (lent_table bytes) r)
+    ⊎ ((1 < goal) × (r ≡ unknown_goal (lent_table bytes)))
 
 abbrev pub GivesAside : Table → Goal → Chosen → Type 0
-GivesAside tb goal = Gives tb goal (AsideTest tb goal)
+GivesAside tb goal = Gives tb (AsideTest tb goal)
 
 abbrev pub GivesEssential : Table → Goal → Chosen → Type 0
-GivesEssential tb goal = Gives tb goal (Essential tb goal)
+GivesEssential tb goal = Gives tb (Essential tb goal)
 
 abbrev pub GivesChoice : ℕ → Table → Goal → Chosen → Type 0
 GivesChoice cap tb goal = ChoiceIs tb goal cap
@@ -59,43 +61,55 @@ ChooseCall bytes goal cap r = ForGoal (GivesChoice cap) bytes goal r
 -- ---- calls that write to a lent buffer
 
 -- the value is the count of the bytes that are written
-abbrev pub CallCounts : List Ask → List ℕ → List ℕ → ℕ → List ℕ → Type 0
+abbrev pub CallCounts : ℕ → List ℕ → List ℕ → ℕ → List ℕ → Type 0
 CallCounts earlier answer entry r exit = CallWrites earlier (length answer) answer entry r exit
 
 abbrev pub DictionaryCall : List ℕ → ℕ → List ℕ → ℕ → List ℕ → Type 0
 DictionaryCall bytes set entry r exit =
-    CallCounts (set_asks (lent_table bytes) set) (dictionary_of (lent_table bytes) set) entry r exit
+    CallCounts (set_number (lent_table bytes) set) (dictionary_of (lent_table bytes) set) entry r exit
 
 abbrev pub SheetCall : List ℕ → ℕ → List ℕ → ℕ → List ℕ → Type 0
 SheetCall bytes set entry r exit =
-    CallCounts (set_asks (lent_table bytes) set) (sheet_of (lent_table bytes) set) entry r exit
+    CallCounts (set_number (lent_table bytes) set) (sheet_of (lent_table bytes) set) entry r exit
 
 pub record ReportCall (book entry : List ℕ) (r : ℕ) (exit : List ℕ) : Type 0 where
   pub text : List ℕ
   pub is_text : IsText book text
-  pub writes : CallCounts [] text entry r exit
+  pub writes : CallCounts 0 text entry r exit
 
--- the class number of each column in use, with the number of classes
-pub record ClassesCall (bytes entry : List ℕ) (r : ℕ) (exit : List ℕ) : Type 0 where
-  pub answer : Classes
-  pub given : ClassesAre (lent_table bytes) answer
-  pub writes : CallWrites (table_asks (lent_table bytes)) answer.count (take (columns (lent_table bytes)) answer.of) entry r exit
+-- the class numbers of the first n columns, with the number of classes
+abbrev pub ClassesWritten : ℕ → Classes → List ℕ → ℕ → List ℕ → Type 0
+ClassesWritten n a entry r exit = CallWrites (verdict_number a.verdict) a.count (take n a.of) entry r exit
+
+abbrev pub ClassesCall : List ℕ → List ℕ → ℕ → List ℕ → Type 0
+ClassesCall bytes entry r exit = ClassesWritten (columns (lent_table bytes)) (classes_of (lent_table bytes)) entry r exit
 
 -- the columns that are suspects, with their count
-pub record SuspectsCall (bytes : List ℕ) (set : ℕ) (seen entry : List ℕ) (r : ℕ) (exit : List ℕ) : Type 0 where
-  pub answer : Suspects
-  pub given : SuspectsAre (lent_table bytes) set seen answer
-  pub writes : CallWrites (seen_asks (lent_table bytes) set seen) answer.count (take answer.count answer.columns) entry r exit
+abbrev pub SuspectsWritten : Suspects → List ℕ → ℕ → List ℕ → Type 0
+SuspectsWritten a entry r exit =
+    CallWrites (verdict_number a.verdict) a.count (take a.count a.columns) entry r exit
 
--- one byte for each fault, 1 for an undetectable one and 0 for any other, with how many are
+abbrev pub SuspectsCall : List ℕ → ℕ → List ℕ → List ℕ → ℕ → List ℕ → Type 0
+SuspectsCall bytes set seen entry r exit = SuspectsWritten (suspects_of (lent_table bytes) set seen) entry r exit
+
+-- one byte for each fault, 1 in the set, 0 not, with how many are
+abbrev pub MarksWritten : Table → Faults → List ℕ → ℕ → List ℕ → Type 0
+MarksWritten tb a entry r exit =
+    CallWrites (faults_number a) (total (bit (faults_set a)) tb.faults) (listed (bit (faults_set a)) tb.faults) entry r exit
+
+-- the same for the undetectable faults
 pub record UndetectableCall (bytes entry : List ℕ) (r : ℕ) (exit : List ℕ) : Type 0 where
   pub answer : Faults
   pub given : UndetectableIn (lent_table bytes) answer
-  pub writes : CallWrites (table_asks (lent_table bytes)) (size (faults_set answer) (lent_table bytes).faults) (listed (bit (faults_set answer)) (lent_table bytes).faults) entry r exit
+  pub writes : MarksWritten (lent_table bytes) answer entry r exit
 
 -- ---- reading
 
 -- the bytes of an accepted book's table, with the place; of a refused book the number and the place, and the buffer stays
-pub record ReadCall (book entry : List ℕ) (r : ℕ) (exit : List ℕ) : Type 0 where
-  pub accepted : (read_book book).number ≡ 0 → CallWrites [] (read_book book).place (bytes_of (read_book book).table) entry r exit
-  pub refused : ((read_book book).number ≡ 0 → ⊥) → (r ≡ packed (read_book book).number (read_book book).place) × (exit ≡ entry)
+abbrev pub ReadWritten : Verdict → ℕ → Table → List ℕ → ℕ → List ℕ → Type 0
+ReadWritten Accepted place tb entry r exit = CallWrites 0 place (bytes_of tb) entry r exit
+ReadWritten (Refused why) place tb entry r exit = (r ≡ packed (number_of why) place) × (exit ≡ entry)
+
+abbrev pub ReadCall : List ℕ → List ℕ → ℕ → List ℕ → Type 0
+ReadCall book entry r exit =
+    ReadWritten (read_book book).verdict (read_book book).place (read_book book).table entry r exit

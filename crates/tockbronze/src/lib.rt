@@ -1,19 +1,9 @@
 // The calls for programs in other languages, on numbers and bytes. A table is lent as 1,586 bytes; an answer is one number, the
 // refusal in its low 8 bits and the value above them.
 ghost use Rattle.tockbronze.specs.Calls.{AsideCall, EssentialCall, ChooseCall, DictionaryCall, SheetCall, ReportCall, ClassesCall, SuspectsCall, UndetectableCall, ReadCall};
-ghost use Rattle.tockbronze.specs.Version.{version};
-ghost use Rattle.std.specs.Prelude.{◌≡◌};
 
 use flat::inner::{answers, bytes, marks, tables};
-use table::{Faults, Verdict};
-
-// Which lent layout and answers these calls have.
-#[unsafe(no_mangle)]
-pub extern "C" fn tockbronze_version() -> u64
-    ensures { result ≡ version }
-{
-    1
-}
+use table::Verdict;
 
 // The tests that are set aside for the goal.
 #[unsafe(no_mangle)]
@@ -22,7 +12,7 @@ pub extern "C" fn tockbronze_set_aside(table: &[u8], goal: u64) -> u64
 {
     let given = tables::table_in(table);
     if goal > 1 {
-        return answers::no_goal(given);
+        return answers::unknown_goal(given);
     }
     answers::of_chosen(cover::set_aside(given, answers::goal_of(goal)))
 }
@@ -34,7 +24,7 @@ pub extern "C" fn tockbronze_essential(table: &[u8], goal: u64) -> u64
 {
     let given = tables::table_in(table);
     if goal > 1 {
-        return answers::no_goal(given);
+        return answers::unknown_goal(given);
     }
     answers::of_chosen(cover::essential(given, answers::goal_of(goal)))
 }
@@ -46,7 +36,7 @@ pub extern "C" fn tockbronze_choose(table: &[u8], goal: u64, cap: u64) -> u64
 {
     let given = tables::table_in(table);
     if goal > 1 {
-        return answers::no_goal(given);
+        return answers::unknown_goal(given);
     }
     answers::of_chosen(choice::choose(given, answers::goal_of(goal), answers::cap_of(cap)))
 }
@@ -83,13 +73,12 @@ pub extern "C" fn tockbronze_classes(table: &[u8], of: &mut [u8]) -> u64
     ensures { ClassesCall table.now of.old result of.new }
 {
     let given = tables::table_in(table);
-    let answer = classes::classify(given);
-    let verdict = answer.verdict;
-    let numbers = answer.of;
-    match verdict {
-        Verdict::Accepted => answers::laid(numbers, given.faults + 1, answer.count, of),
-        Verdict::Refused(why) => answers::refused(why),
+    if !table::well_formed(given) {
+        return 20;
     }
+    let answer = classes::classify(given);
+    let numbers = answer.of;
+    answers::laid(numbers, given.faults + 1, answer.count, of)
 }
 
 // The suspects for the observed outputs.
@@ -108,7 +97,7 @@ pub extern "C" fn tockbronze_suspects(
     let count = answer.count;
     match verdict {
         Verdict::Accepted => answers::laid(found, count, count, columns),
-        Verdict::Refused(why) => answers::refused(why),
+        Verdict::Refused(why) => table::number(why) as u64,
     }
 }
 
@@ -118,11 +107,10 @@ pub extern "C" fn tockbronze_undetectable(table: &[u8], faults: &mut [u8]) -> u6
     ensures { UndetectableCall table.now faults.old result faults.new }
 {
     let given = tables::table_in(table);
-    let answer = classes::undetectable(given);
-    match answer {
-        Faults::Set(set) => marks::marked(set, given.faults, faults),
-        Faults::Refused(why) => answers::refused(why),
+    if !table::well_formed(given) {
+        return 20;
     }
+    marks::marked(classes::undetectable(given), given.faults, faults)
 }
 
 // Reads the book, and writes the bytes of its table.

@@ -103,11 +103,11 @@ pub fn table(case: &[u8]) -> Table {
     let cells = cells(case);
     let lines = labels(case, 1480);
     let stuck = labels(case, 1540);
-    let mut given = table::empty_table();
-    given.tests = number(case, 0);
-    given.faults = number(case, 8);
-    given.cells = cells;
-    given.lines = lines;
-    given.stuck = stuck;
-    given
+    Table {
+        tests: number(case, 0),
+        faults: number(case, 8),
+        cells,
+        lines,
+        stuck,
+    }
 }

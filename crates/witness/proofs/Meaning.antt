@@ -5,13 +5,13 @@ use mathlib.Core.List.{List}
 use mathlib.Core.Logic.{⊎_elim}
 use mathlib.Core.Path.{◌≡◌, refl, sym, ap, ◌∙◌}
 use Prim.Native.Nat.{ℕ, ◌+◌, ◌-◌, ◌*◌, ◌/◌, ◌≤◌, ◌<◌}
-use native.Mathlib.Nat.{le_antisymm, mul-le-mul, mul-sub, mul-add, mul-one, mul_left_comm}
+use native.Mathlib.Nat.{le_antisymm, mul-sub, mul-add, mul-one, mul_left_comm}
 use native.Mathlib.Omega.{arith}
 use borrow.Author.Tests.{lt-ltb, eq-eqb, ne_eqb, not-true}
 use lib.Dec.{ltb}
 use lib.ListN.{length, get_or, drop}
 use lib.Seq.{get_or-drop, get_or-take}
-use Rattle.folds.specs.Fold.{whether, count}
+use Rattle.folds.specs.Fold.{pick, count, first}
 use Rattle.folds.proofs.Below.{lt_or_ge, eq_or_ne}
 use Rattle.folds.proofs.Bools.{both_true, both_left, both_right, clash}
 use Rattle.folds.proofs.Count.{count_yes, count_mono, count_less}
@@ -19,17 +19,15 @@ use Rattle.folds.proofs.First.{first_below, first_has, first_le, first_same}
 use Rattle.folds.proofs.Joined.{joined-part, joined-mono, rows_at}
 use Rattle.folds.proofs.Gather.{gather-length, gather_get}
 use Rattle.sets.specs.Sets.{has}
-use Rattle.table.specs.Table.{output_at, columns, agrees, separates}
-use Rattle.table.specs.WellFormed.{WellFormed}
+use Rattle.table.specs.Table.{output_at, columns}
 use Rattle.table.specs.declared.Table.{Table}
 use Rattle.table.specs.declared.Written.TheVariants.{Bytes}
-use Rattle.terms.specs.Columns.{alike, lowest, lowestOf, classNumber, outputsUnder}
+use Rattle.terms.specs.Columns.{agrees, alike, lowest, lowestOf, classNumber, outputsUnder}
 use Rattle.terms.specs.Terms.{class_of, class_count}
-use Rattle.terms_laws.proofs.Classes.{alike_at, alike-sym, lowest-le, lowest-alike, lowest-of, class-lowest, few_classes, signature-of, signature_at}
-use Rattle.asks.specs.Asks.{set_asks}
-use Rattle.lent.specs.Lent.{WritesOnto}
+use Rattle.terms_laws.proofs.Classes.{alike_at, alike-sym, lowest-le, lowest-alike, lowest-of, class-lowest, signature-of, signature_at}
+use Rattle.lent.specs.Lent.{set_number, WritesOnto}
 use Rattle.lent.proofs.Lent.{writes_byte}
-use Rattle.witness.specs.Witness.{separatesIn, lowestTest, witnessOf, above, witnesses, sheetUnder, sheet_of}
+use Rattle.witness.specs.Witness.{separates, lowestTest, witnessOf, above, witnesses, sheetUnder, sheet_of}
 use Rattle.witness.proofs.Rows.{witness-found, witness-none, above-count}
 use Rattle.witness.proofs.Size.{rows_to, rows-sum, sheet-size}
 
@@ -44,30 +42,30 @@ row_place i k sum h =
 module _ (out : ℕ → ℕ → ℕ) (tests s : ℕ) where
   -- ---- the witness of two columns
 
-  separates-yes : (a b t : ℕ) → has s t ≡ true → (out t a ≡ out t b → ⊥) → separatesIn out s a b t ≡ true
-  unfolding separatesIn separates agrees
+  separates-yes : (a b t : ℕ) → has s t ≡ true → (out t a ≡ out t b → ⊥) → separates out s a b t ≡ true
+  unfolding separates agrees
   separates-yes a b t h n = both_true _ _ h (rw (ne_eqb (out t a) (out t b) n))
 
-  separates-has : (a b t : ℕ) → separatesIn out s a b t ≡ true → has s t ≡ true
-  unfolding separatesIn
+  separates-has : (a b t : ℕ) → separates out s a b t ≡ true → has s t ≡ true
+  unfolding separates
   separates-has a b t e = both_left _ _ e
 
-  separates-differ : (a b t : ℕ) → separatesIn out s a b t ≡ true → out t a ≡ out t b → ⊥
-  unfolding separatesIn separates agrees
+  separates-differ : (a b t : ℕ) → separates out s a b t ≡ true → out t a ≡ out t b → ⊥
+  unfolding separates agrees
   separates-differ a b t e q = clash _ (eq-eqb (out t a) (out t b) q) (not-true _ (both_right (has s t) _ e))
 
   -- columns that are alike have the same witnesses
   pub witness-same : (a b c d : ℕ) → alike out tests a c ≡ true → alike out tests b d ≡ true → witnessOf out tests s a b ≡ witnessOf out tests s c d
-  unfolding witnessOf separatesIn separates agrees
+  unfolding witnessOf separates agrees
   witness-same a b c d h k =
       let e : lowestTest out tests s a b ≡ lowestTest out tests s c d = first_same _ _ tests (λ t w. rw (alike_at out tests a c t h w, alike_at out tests b d t k w)) in
-      ap (λ (m : ℕ). whether (ltb m tests) m 255) e
+      ap (λ (m : ℕ). pick (ltb m tests) m 255) e
 
   low-witness : (a b : ℕ) → lowestTest out tests s a b < tests → witnessOf out tests s a b ≡ lowestTest out tests s a b
   low-witness a b w = sym (witness-found out tests s a b _ refl w)
 
   no-witness : (a b : ℕ) → tests ≤ lowestTest out tests s a b → witnessOf out tests s a b ≡ 255
-  no-witness a b w = sym (witness-none out tests s a b (le_antisymm w (first_le (separatesIn out s a b) tests)))
+  no-witness a b w = sym (witness-none out tests s a b (le_antisymm w (first_le (separates out s a b) tests)))
 
   -- test t is the first test of the set in which the signatures of the columns a and b differ
   pub record FirstIn (t a b : ℕ) : Type 0 where
@@ -79,13 +77,13 @@ module _ (out : ℕ → ℕ → ℕ) (tests s : ℕ) where
   -- before the lowest test that separates two columns they agree
   agree-before : (a b t : ℕ) → t < lowestTest out tests s a b → has s t ≡ true → out t a ≡ out t b
   agree-before a b t w h =
-      ⊎_elim (λ e. e) (λ n. clash _ (separates-yes a b t h n) (first_below (separatesIn out s a b) tests t w)) (eq_or_ne (out t a) (out t b))
+      ⊎_elim (λ e. e) (λ n. clash _ (separates-yes a b t h n) (first_below (separates out s a b) tests t w)) (eq_or_ne (out t a) (out t b))
 
   -- 255 stands exactly where the signatures are equal
   pub equal-none : (a b : ℕ) → outputsUnder out tests s a ≡ outputsUnder out tests s b → witnessOf out tests s a b ≡ 255
   equal-none a b e = ⊎_elim
       (λ (w : lowestTest out tests s a b < tests).
-      let h = first_has (separatesIn out s a b) tests w in
+      let h = first_has (separates out s a b) tests w in
       absurd (separates-differ a b _ h (signature_at out tests s a b _ e w (separates-has a b _ h))))
       (no-witness a b)
       (lt_or_ge (lowestTest out tests s a b) tests)
@@ -100,7 +98,7 @@ module _ (out : ℕ → ℕ → ℕ) (tests s : ℕ) where
     -- any other witness is the first test of the set in which the signatures differ
     pub witness-first : (a b : ℕ) → (witnessOf out tests s a b ≡ 255 → ⊥) → FirstIn (witnessOf out tests s a b) a b
     witness-first a b n = ⊎_elim
-        (λ w. let h = first_has (separatesIn out s a b) tests w in rw (low-witness a b w) (record {
+        (λ w. let h = first_has (separates out s a b) tests w in rw (low-witness a b w) (record {
           test = w;
           held = separates-has a b _ h;
           differ = separates-differ a b _ h;
@@ -178,12 +176,6 @@ module _ (out : ℕ → ℕ → ℕ) (tests s : ℕ) where
 pub sheet_length : (tb : Table) (s : ℕ) → length (sheet_of tb s) ≡ class_count tb * (class_count tb - 1) / 2
 sheet_length tb s = sym (sheet-size (output_at tb) tb.tests s (columns tb) (class_count tb) refl)
 
--- which is no more than 61 times 60, halved
-pub sheet_most : (tb : Table) → WellFormed tb → (s : ℕ) → length (sheet_of tb s) ≤ 1830
-sheet_most tb w s =
-    let lower : class_count tb - 1 ≤ 60 = omega (arith, few_classes tb w) in
-    omega (arith, sheet_length tb s, mul-le-mul (few_classes tb w) lower)
-
 -- where the witness of the classes of the columns c and d stands
 abbrev pub witness_place : Table → ℕ → ℕ → ℕ
 witness_place tb c d = class_of tb c * (2 * class_count tb - class_of tb c - 1) / 2 + (class_of tb d - class_of tb c - 1)
@@ -193,7 +185,7 @@ module _ (tb : Table) (s c d : ℕ) (w : d < columns tb) (l : class_of tb c < cl
   sheet-place = witness-place (output_at tb) tb.tests s (columns tb) c d _ _ _ w refl refl refl l
 
   -- and so it stands in the buffer that an accepted call leaves
-  pub written-witness : (n : ℕ) (b e : List ℕ) → WritesOnto (set_asks tb s) (sheet_of tb s) b (Bytes n) e → get_or e (witness_place tb c d) 0 ≡ witnessOf (output_at tb) tb.tests s c d
+  pub written-witness : (n : ℕ) (b e : List ℕ) → WritesOnto (set_number tb s) (sheet_of tb s) b (Bytes n) e → get_or e (witness_place tb c d) 0 ≡ witnessOf (output_at tb) tb.tests s c d
   written-witness n b e a =
-      writes_byte (set_asks tb s) (sheet_of tb s) b n e a (witness_place tb c d) (place_below (output_at tb) tb.tests s (columns tb) c d _ _ _ w refl refl refl l)
+      writes_byte (set_number tb s) (sheet_of tb s) b n e a (witness_place tb c d) (place_below (output_at tb) tb.tests s (columns tb) c d _ _ _ w refl refl refl l)
       ∙ sheet-place

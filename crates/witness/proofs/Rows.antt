@@ -15,8 +15,7 @@ use Rattle.sets.specs.Sets.{has}
 use Rattle.sets.specs.Collect.{set_of}
 use Rattle.sets.proofs.Collect.{set_tells}
 use Rattle.terms.specs.Columns.{lowest}
-use Rattle.witness.specs.Witness.{lowestTest, witnessOf, above, witnesses}
-use Rattle.witness.specs.Inner.{above_in}
+use Rattle.witness.specs.Witness.{above_in, lowestTest, witnessOf, above, witnesses}
 
 module _ (out : ℕ → ℕ → ℕ) (tests : ℕ) where
   -- ---- the answers of `witness`

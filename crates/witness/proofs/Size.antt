@@ -1,5 +1,5 @@
 -- Where each row of the sheet starts, and how long the sheet is. Assumes nothing.
-use mathlib.Core.Bool.{Bool, true, false}
+use mathlib.Core.Bool.{Bool, true, false, not}
 use mathlib.Core.Path.{◌≡◌, refl, sym, ◌∙◌}
 use Prim.Native.Nat.{ℕ, zero, suc, ◌+◌, ◌-◌, ◌*◌, ◌/◌, ◌≤◌}
 use native.Mathlib.Nat.{mul-le-mul, lt_of_le_of_lt, add-mul, mul-add, one-mul, mul-one, zero-mul, mul-sub}
@@ -13,7 +13,9 @@ use Rattle.folds.specs.Fold.{count, joined}
 use Rattle.folds.proofs.Count.{count_none, count_yes, count_no, count_less, count_le}
 use Rattle.folds.proofs.Joined.{joined-none, rows_at, rows_stay}
 use Rattle.table.specs.Table.{cell_at}
+use Rattle.table.specs.Test.{Tested}
 use Rattle.table.specs.declared.Table.{Table}
+use Rattle.table.proofs.Formed.{few-columns}
 use Rattle.terms.specs.Columns.{lowest}
 use Rattle.terms_laws.proofs.Classes.{lowest-zero}
 use Rattle.witness.specs.Witness.{witnesses, sheetUnder}
@@ -70,8 +72,8 @@ pub some_class : (out : ℕ → ℕ → ℕ) (tests f k : ℕ) → k ≡ count (
 some_class out tests f k e = omega (arith, count_less (lowest out tests) 0 (f + 1) (omega arith) (lowest-zero out tests))
 
 -- how many bytes they are fits
-pub pairs_fit : (tb : Table) (k : ℕ) → tb.faults + 1 ≤ 61 → k ≡ count (lowest (cell_at tb.cells) tb.tests) (tb.faults + 1) → Fits w64 (k * (k - 1))
-pairs_fit tb k c e =
-    let a : k ≤ 61 = omega (arith, count_le (lowest (cell_at tb.cells) tb.tests) (tb.faults + 1)) in
+pub pairs_fit : (tb : Table) (r : Bool) → Tested tb r → not r ≡ false → (k : ℕ) → k ≡ count (lowest (cell_at tb.cells) tb.tests) (tb.faults + 1) → Fits w64 (k * (k - 1))
+pairs_fit tb r t q k e =
+    let a : k ≤ 61 = omega (arith, few-columns tb r t q, count_le (lowest (cell_at tb.cells) tb.tests) (tb.faults + 1)) in
     let b : k - 1 ≤ 61 = omega arith in
     record { fits = lt_of_le_of_lt (mul-le-mul a b) (lit< tt) }

@@ -1,2 +1,1 @@
 pub mod Witness
-pub mod Inner

@@ -1,25 +1,29 @@
 -- The witness sheet. The sentences are document 01's.
 -- Assumes nothing.
-use Rattle.std.specs.Prelude.{Bool, List, ℕ, ltb}
-use Rattle.folds.specs.Fold.{whether, both, first, gather, joined}
+use Rattle.std.specs.Prelude.{Bool, not, List, ℕ, ltb}
+use Rattle.folds.specs.Fold.{pick, both, first, gather, joined}
 use Rattle.sets.specs.Sets.{has}
-use Rattle.table.specs.Table.{output_at, columns, separates}
+use Rattle.table.specs.Table.{output_at, columns}
 use Rattle.table.specs.declared.Table.{Table}
-use Rattle.terms.specs.Columns.{lowest}
+use Rattle.terms.specs.Columns.{agrees, lowest}
+
+-- column b is in the set, and above column a
+unfoldable pub above_in : ℕ → ℕ → ℕ → Bool
+above_in set a b = both (ltb a b) (has set b)
 
 module _ (out : ℕ → ℕ → ℕ) where
   -- test t is in the set s and separates the columns a and b
-  unfoldable pub separatesIn : ℕ → ℕ → ℕ → ℕ → Bool
-  separatesIn s a b t = both (has s t) (separates out a b t)
+  unfoldable pub separates : ℕ → ℕ → ℕ → ℕ → Bool
+  separates s a b t = both (has s t) (not (agrees out a b t))
 
   module _ (tests : ℕ) where
     -- the number of the lowest test of s that separates the columns a and b, and `tests` where none does
     abbrev pub lowestTest : ℕ → ℕ → ℕ → ℕ
-    lowestTest s a b = first (separatesIn s a b) tests
+    lowestTest s a b = first (separates s a b) tests
 
     -- "the lowest test of the set that separates them, or 255 where none does"
     unfoldable pub witnessOf : ℕ → ℕ → ℕ → ℕ
-    witnessOf s a b = whether (ltb (lowestTest s a b) tests) (lowestTest s a b) 255
+    witnessOf s a b = pick (ltb (lowestTest s a b) tests) (lowestTest s a b) 255
 
     -- column b is the lowest of its class, and above column a
     unfoldable pub above : ℕ → ℕ → Bool

@@ -4,18 +4,17 @@ ghost use Rattle.folds.specs.Fold.{count, onto};
 ghost use Rattle.table.specs.Table.{cell_at};
 ghost use Rattle.terms.specs.Columns.{lowest};
 ghost use Rattle.sets.specs.Collect.{set_of};
-ghost use Rattle.witness.specs.Witness.{separatesIn, witnessOf, above, witnesses, sheetUnder};
-ghost use Rattle.witness.specs.Inner.{above_in};
+ghost use Rattle.witness.specs.Witness.{separates, witnessOf, above, above_in, witnesses, sheetUnder};
 
 // Whether test t is in the set and separates the columns a and b.
-fn separates_in(cells: &[u8; 1464], set: u32, a: usize, b: usize, t: usize) -> bool
+fn separates(cells: &[u8; 1464], set: u32, a: usize, b: usize, t: usize) -> bool
     requires { (a < 61) × (b < 61) × (t < 24) }
-    ensures { result ≡ separatesIn (cell_at cells.now) set a b t }
+    ensures { result ≡ separates (cell_at cells.now) set a b t }
 {
     if !sets::inner::has(set, t) {
         return false;
     }
-    !table::inner::agrees(cells, a, b, t)
+    table::inner::cell(cells, t, a) != table::inner::cell(cells, t, b)
 }
 
 // The lowest test of the set that separates the columns a and b, or 255.
@@ -25,7 +24,7 @@ fn witness(cells: &[u8; 1464], tests: usize, set: u32, a: usize, b: usize) -> u8
 {
     let mut i = 0;
     while i < tests {
-        if separates_in(cells, set, a, b, i) {
+        if separates(cells, set, a, b, i) {
             return i as u8;
         }
         i += 1;
@@ -41,7 +40,7 @@ fn above(lows: u64, a: usize, b: usize) -> bool
     if b <= a {
         return false;
     }
-    sets::inner::holds(lows, b)
+    classes::inner::holds(lows, b)
 }
 
 // Writes the witnesses of column a's class with each one above it to a row of their number.
@@ -85,7 +84,7 @@ pub fn write_sheet(
     let mut at = 0;
     let mut i = 0;
     while i < columns {
-        if sets::inner::holds(lows, i) {
+        if classes::inner::holds(lows, i) {
             left -= 1;
             let end = at + left;
             write_row(cells, tests, set, columns, lows, i, &mut buf[at..end]);

@@ -1,8 +1,7 @@
 use mathlib.Core.Path.{◌≡◌}
 use Prim.Native.Nat.{◌≤◌, ◌-◌}
 use borrow.Author.Rules.{rules}
-use Rattle.adder.specs.Adder.{rows_filled}
-use Rattle.adder.specs.Filling.{correct_output}
+use Rattle.adder.specs.Adder.{correct_output, rows_filled}
 use Rattle.adder.proofs.Fill.{rows_start, correct_row, rows_end}
 use Rattle.adder.proofs.correct_cells.Statement.{statement}
 use Rattle.adder.proofs.correct_cells.Tie as tie

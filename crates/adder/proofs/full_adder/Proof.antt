@@ -40,9 +40,6 @@ loop-again c = (search rules, search labels-store, search labels-store)
 adder-cells-requires : tie.Need-adder-cells-requires invariant-loop decreases-loop
 adder-cells-requires c κs = search rules
 
-empty-table-requires : tie.Need-empty-table-requires invariant-loop decreases-loop
-empty-table-requires c κs = search rules
-
 returns : tie.Need-returns invariant-loop decreases-loop
 returns c = search table_right
 
@@ -61,5 +58,4 @@ full-adder-spec =
     loop-less
     loop-again
     adder-cells-requires
-    empty-table-requires
     returns)

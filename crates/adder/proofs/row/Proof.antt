@@ -2,8 +2,7 @@ use mathlib.Core.Path.{◌≡◌, refl}
 use Prim.Native.Nat.{◌≤◌, ◌-◌}
 use native.Mathlib.Omega.{arith}
 use borrow.Author.Rules.{rules}
-use Rattle.adder.specs.Adder.{row_filled}
-use Rattle.adder.specs.Filling.{same}
+use Rattle.adder.specs.Adder.{row_filled, same}
 use Rattle.adder.proofs.Fill.{row-start, row-store, row-end}
 use Rattle.table.proofs.Cells.{place_below}
 use Rattle.adder.proofs.row.Statement.{statement}

@@ -1,13 +1,12 @@
 use Prim.Native.Nat.{◌-◌}
 use borrow.Author.Rules.{rules}
 use lib.ListN.{length}
-use Rattle.book.specs.SomeStart.{Reached}
-use Rattle.book.proofs.Loop.{reading}
+use Rattle.book.proofs.Loop.{Reads, reading}
 use Rattle.book.proofs.read_book.Statement.{statement}
 use Rattle.book.proofs.read_book.Tie as tie
 
 abbrev invariant-loop : tie.invariant-loop
-invariant-loop book place₀ sofar₀ place sofar = Reached book place sofar
+invariant-loop book place₀ sofar₀ place sofar = Reads book place sofar
 
 abbrev decreases-loop : tie.decreases-loop
 decreases-loop book place₀ sofar₀ place sofar = length book - place
@@ -19,7 +18,7 @@ loop-holds : tie.Need-loop-init invariant-loop decreases-loop
 loop-holds c = search reading
 
 step-requires : tie.Need-step-requires invariant-loop decreases-loop
-step-requires c κs = search reading
+step-requires c κs = c.loop.invariant.counts
 
 enum_told : tie.Need-enum-told invariant-loop decreases-loop
 enum_told c = search rules
@@ -33,17 +32,11 @@ loop-again c = search reading
 enum-told-2 : tie.Need-enum-told-2 invariant-loop decreases-loop
 enum-told-2 c = search rules
 
-stopped-requires : tie.Need-stopped-requires invariant-loop decreases-loop
-stopped-requires c κs = search rules
-
 returns : tie.Need-returns invariant-loop decreases-loop
 returns c = search reading
 
 enum-known-outcome : tie.Need-enum-known-outcome invariant-loop decreases-loop
 enum-known-outcome c = search rules
-
-stopped-requires-2 : tie.Need-stopped-requires-2 invariant-loop decreases-loop
-stopped-requires-2 c κs = search rules
 
 returns-2 : tie.Need-returns-2 invariant-loop decreases-loop
 returns-2 c = search reading
@@ -61,8 +54,6 @@ read-book-spec =
     loop-less
     loop-again
     enum-told-2
-    stopped-requires
     returns
     enum-known-outcome
-    stopped-requires-2
     returns-2)

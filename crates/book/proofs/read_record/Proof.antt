@@ -1,8 +1,7 @@
 use borrow.Author.Rules.{rules}
-use Rattle.records.proofs.Answers.{is-step}
 use Rattle.records.proofs.Judged.{judges}
 use Rattle.book.proofs.Sounds.{sound_counts}
-use Rattle.book.specs.RecordAt.{call_rule, record_at}
+use Rattle.book.specs.Sound.{call_rule, record_at}
 use Rattle.records.specs.Step.{stepAt}
 use Rattle.book.proofs.read_record.Statement.{statement}
 use Rattle.book.proofs.read_record.Tie as tie
@@ -15,21 +14,21 @@ refuse-requires c κs = search rules
 
 returns : tie.Need-returns
 unfolding record_at call_rule
-returns c = is-step _ _ (search judges)
+returns c = search judges
 
 refuse-requires-2 : tie.Need-refuse-requires-2
 refuse-requires-2 c κs = search rules
 
 returns-2 : tie.Need-returns-2
 unfolding record_at call_rule
-returns-2 c = is-step _ _ (search judges)
+returns-2 c = search judges
 
 step-requires : tie.Need-step-requires
 step-requires c κs = search sound_counts
 
 returns-3 : tie.Need-returns-3
 unfolding record_at call_rule stepAt
-returns-3 c = is-step _ _ (search judges depth 14)
+returns-3 c = search judges depth 14
 
 pub read-record-spec : {M : Type 1} → statement M
 read-record-spec =

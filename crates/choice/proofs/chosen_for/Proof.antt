@@ -1,8 +1,6 @@
-use mathlib.Core.Path.{sym, ◌∙◌}
-use native.Mathlib.Omega.{arith}
 use borrow.Author.Rules.{rules}
-use Rattle.cover.proofs.Fill.{filled-fits, filled-few, filled-part}
-use Rattle.choice.proofs.Root.{zeros_part, few-part, few-fits, kept_low, sought-by}
+use Rattle.cover.proofs.Fill.{filled-fits, filled-part}
+use Rattle.choice.proofs.Root.{row_fits, row-slice, sought-by}
 use Rattle.choice.proofs.chosen_for.Statement.{statement}
 use Rattle.choice.proofs.chosen_for.Tie as tie
 
@@ -18,41 +16,26 @@ slice-aggregate-kept-tests c = filled-part _ _ _ c.before.before.masks-of.ensure
 kept-tests-requires : tie.Need-kept-tests-requires
 kept-tests-requires c κs = search rules
 
+array-borrow-prefix-list : tie.Need-array-borrow-prefix-list
+array-borrow-prefix-list c = filled-fits _ _ _ c.before.before.before.masks-of.ensures
+
+slice-aggregate-few-first : tie.Need-slice-aggregate-few-first
+slice-aggregate-few-first c = filled-part _ _ _ c.before.before.before.before.masks-of.ensures
+
+few-first-requires : tie.Need-few-first-requires
+few-first-requires c κs = search rules
+
 array-share-prefix-list-2 : tie.Need-array-share-prefix-list-2
-array-share-prefix-list-2 c = filled-fits _ _ _ c.before.before.before.masks-of.ensures
-
-slice-aggregate-least-masks : tie.Need-slice-aggregate-least-masks
-slice-aggregate-least-masks c = filled-part _ _ _ c.before.before.before.before.masks-of.ensures
-
-array-borrow-prefix-few : tie.Need-array-borrow-prefix-few
-array-borrow-prefix-few c = filled-few _ _ _ c.before.before.before.before.masks-of.ensures c.before.before.before.before.before.requires.faults_fit
-
-slice-aggregate-least-masks-2 : tie.Need-slice-aggregate-least-masks-2
-slice-aggregate-least-masks-2 c = zeros_part _ (filled-few _ _ _ c.before.before.before.before.before.masks-of.ensures c.before.before.before.before.before.before.requires.faults_fit)
-
-least-masks-requires : tie.Need-least-masks-requires
-least-masks-requires c κs = (
-  omega (arith, filled-few _ _ _ c.before.before.before.before.before.masks-of.ensures c.before.before.before.before.before.before.requires.faults_fit, filled-part _ _ _ c.before.before.before.before.before.masks-of.ensures),
-  kept_low _ c.before.before.before.before.before.before.requires _ _ c.before.before.before.before.before.masks-of.ensures _ c.before.before.kept-tests.ensures,
-  sym (zeros_part _ (filled-few _ _ _ c.before.before.before.before.before.masks-of.ensures c.before.before.before.before.before.before.requires.faults_fit)) ∙ filled-part _ _ _ c.before.before.before.before.before.masks-of.ensures,
-)
-
-weights-of-requires : tie.Need-weights-of-requires
-weights-of-requires c κs = search rules
-
-array-share-prefix-few : tie.Need-array-share-prefix-few
-array-share-prefix-few c = few-fits _ _ _ _ _ c.before.before.least-masks.ensures.0 c.before.before.least-masks.ensures.1
+array-share-prefix-list-2 c = row_fits _ _ _ c.before.before.before.before.before.before.masks-of.ensures _ c.before.few-first.ensures
 
 slice-aggregate-lightest : tie.Need-slice-aggregate-lightest
-slice-aggregate-lightest c = few-part _ _ _ _ _ c.before.before.before.least-masks.ensures.0 c.before.before.before.least-masks.ensures.1
+slice-aggregate-lightest c = row-slice _ _ _ c.before.before.before.before.before.before.before.masks-of.ensures _ c.before.before.few-first.ensures
 
 lightest-requires : tie.Need-lightest-requires
 lightest-requires c κs = search rules
 
 returns : tie.Need-returns
-returns c =
-    sought-by _ c.before.before.before.before.before.before.before.before.before.before.before.before.requires _ _ c.before.before.before.before.before.before.before.before.before.before.before.masks-of.ensures _ c.before.before.before.before.before.before.before.before.kept-tests.ensures _ c.before.before.before.weights-of.ensures.0 _ _ _
-    c.before.before.before.before.before.least-masks.ensures.0 c.before.before.before.before.before.least-masks.ensures.1 c.lightest.result c.lightest.ensures
+returns c = sought-by _ c.before.before.before.before.before.before.before.before.before.requires _ _ c.before.before.before.before.before.before.before.before.masks-of.ensures _ c.before.before.before.few-first.ensures _ c.before.before.before.before.before.kept-tests.ensures c.lightest.result c.lightest.ensures
 
 pub chosen-for-spec : {M : Type 1} → statement M
 chosen-for-spec =
@@ -62,13 +45,10 @@ chosen-for-spec =
     array-share-prefix-list
     slice-aggregate-kept-tests
     kept-tests-requires
+    array-borrow-prefix-list
+    slice-aggregate-few-first
+    few-first-requires
     array-share-prefix-list-2
-    slice-aggregate-least-masks
-    array-borrow-prefix-few
-    slice-aggregate-least-masks-2
-    least-masks-requires
-    weights-of-requires
-    array-share-prefix-few
     slice-aggregate-lightest
     lightest-requires
     returns)

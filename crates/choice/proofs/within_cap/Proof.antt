@@ -1,5 +1,5 @@
 use borrow.Author.Rules.{rules}
-use Rattle.choice.proofs.Cap.{cap-holds, cap-fails, cap-none}
+use Rattle.choice.proofs.Root.{cap-holds, cap-fails, cap-none}
 use Rattle.choice.proofs.within_cap.Statement.{statement}
 use Rattle.choice.proofs.within_cap.Tie as tie
 

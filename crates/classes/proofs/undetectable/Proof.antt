@@ -1,34 +1,21 @@
 use borrow.Author.Rules.{rules}
-use Rattle.asks.proofs.Asked.{admits}
-use Rattle.classes.proofs.Calls.{undetectable-refused, undetectable-all}
+use Rattle.table.proofs.Formed.{admits}
+use Rattle.classes.proofs.Calls.{undetectable-20, undetectable-0, few-faults}
 use Rattle.classes.proofs.undetectable.Statement.{statement}
 use Rattle.classes.proofs.undetectable.Tie as tie
 
-table-verdict-requires : tie.Need-table-verdict-requires
-table-verdict-requires c κs = search rules
-
-enum-known-why : tie.Need-enum-known-why
-enum-known-why c = search rules
+well-formed-requires : tie.Need-well-formed-requires
+well-formed-requires c κs = search rules
 
 returns : tie.Need-returns
-returns c = search undetectable-refused
-
-enum_told : tie.Need-enum-told
-enum_told c = search rules
+returns c = search undetectable-20
 
 undetected-set-requires : tie.Need-undetected-set-requires
-undetected-set-requires c κs = (search admits, search admits)
+undetected-set-requires c κs = search (admits, few-faults)
 
 returns-2 : tie.Need-returns-2
-returns-2 c = search undetectable-all
+returns-2 c = search undetectable-0
 
 pub undetectable-spec : {M : Type 1} → statement M
 undetectable-spec =
-    tie.close
-    (tie.spec
-    table-verdict-requires
-    enum-known-why
-    returns
-    enum_told
-    undetected-set-requires
-    returns-2)
+    tie.close (tie.spec well-formed-requires returns undetected-set-requires returns-2)

@@ -1,21 +1,21 @@
 use borrow.Author.Rules.{rules}
-use Rattle.asks.proofs.Asked.{admits}
-use Rattle.lent.proofs.Lent.{writes-refused, writes-24, writes-0}
+use Rattle.table.proofs.Formed.{admits}
+use Rattle.lent.proofs.Lent.{writes-20, writes-21, writes-24, writes-0}
 use Rattle.dictionary.proofs.Rows.{rows-size, rows_fit, bytes_fit}
 use Rattle.dictionary.proofs.dictionary.Statement.{statement}
 use Rattle.dictionary.proofs.dictionary.Tie as tie
 
-set-verdict-requires : tie.Need-set-verdict-requires
-set-verdict-requires c κs = search rules
-
-enum-known-why : tie.Need-enum-known-why
-enum-known-why c = search rules
+well-formed-requires : tie.Need-well-formed-requires
+well-formed-requires c κs = search rules
 
 returns : tie.Need-returns
-returns c = search writes-refused
+returns c = search writes-20
 
-enum_told : tie.Need-enum-told
-enum_told c = search rules
+within-requires : tie.Need-within-requires
+within-requires c κs = search admits
+
+returns-2 : tie.Need-returns-2
+returns-2 c = search writes-21
 
 add-columns : tie.Need-overflow-add-columns
 add-columns c = search admits
@@ -24,41 +24,41 @@ size-requires : tie.Need-size-requires
 size-requires c κs = search admits
 
 class-count-requires : tie.Need-class-count-requires
-class-count-requires c κs = (search admits, search admits)
+class-count-requires c κs = search admits
 
 mul-bytes : tie.Need-overflow-mul-bytes
-mul-bytes c = search (bytes_fit, admits)
+mul-bytes c = search bytes_fit
 
-returns-2 : tie.Need-returns-2
-returns-2 c = search (writes-24, rows-size)
+returns-3 : tie.Need-returns-3
+returns-3 c = search (writes-24, rows-size)
 
 write-rows-requires : tie.Need-write-rows-requires
 write-rows-requires c κs = (
   search admits,
   search admits,
   search rules,
-  rows_fit _ _ _ _ _ _ _ c.before.before.before.before.class-count.ensures c.before.before.before.before.before.before.before.size.ensures c.before.before.before.if1.false,
+  rows_fit _ _ _ _ _ _ _ c.before.before.before.before.class-count.ensures c.before.before.before.before.before.before.before.size.ensures c.before.before.before.if3.false,
 )
 
 same_length : tie.Need-same-length
 same_length c = search rules
 
-returns-3 : tie.Need-returns-3
-returns-3 c = search (writes-0, rows-size)
+returns-4 : tie.Need-returns-4
+returns-4 c = search (writes-0, rows-size)
 
 pub dictionary-spec : {M : Type 1} → statement M
 dictionary-spec =
     tie.close
     (tie.spec
-    set-verdict-requires
-    enum-known-why
+    well-formed-requires
     returns
-    enum_told
+    within-requires
+    returns-2
     add-columns
     size-requires
     class-count-requires
     mul-bytes
-    returns-2
+    returns-3
     write-rows-requires
     same_length
-    returns-3)
+    returns-4)

@@ -4,11 +4,11 @@ use Prim.Native.Nat.{◌≤◌, ◌-◌}
 use native.Mathlib.Omega.{arith}
 use borrow.Author.Rules.{rules}
 use lib.ListN.{length}
-use Rattle.folds.specs.Fold.{gather, onto}
+use Rattle.folds.specs.Fold.{count, gather, onto}
 use Rattle.folds.proofs.Count.{tally, count_start, count_fits}
 use Rattle.folds.proofs.Gather.{gathers, gather-start}
 use Rattle.folds.proofs.Onto.{keeps}
-use Rattle.sets.specs.Sets.{has, size}
+use Rattle.sets.specs.Sets.{has}
 use Rattle.table.specs.Table.{cell_at}
 use Rattle.terms.specs.Columns.{outputOf}
 use Rattle.dictionary.proofs.write_row.Statement.{statement}
@@ -17,7 +17,7 @@ use Rattle.dictionary.proofs.write_row.Tie as tie
 abbrev invariant-loop : tie.invariant-loop
 invariant-loop cells tests set c row₀ j₀ i₀ row j i =
     (i ≤ tests)
-    × (j ≡ size set i)
+    × (j ≡ count (has set) i)
     × (row ≡ onto (gather (has set) (outputOf (cell_at cells) c) i) row₀)
     × (length row ≡ length row₀)
 

@@ -1,28 +1,16 @@
 // Answers as one number, goals and caps as numbers.
-ghost use Rattle.std.specs.Prelude.{[], ◌≡◌, ◌≤◌, ◌<◌, take};
+ghost use Rattle.std.specs.Prelude.{◌≡◌, ◌≤◌, ◌<◌, take};
 ghost use Rattle.table.specs.Answers.{number_of, chosen_number, chosen_set, written_number, written_count};
-ghost use Rattle.flat.specs.Packed.{packed, goal_of, NoGoal};
-ghost use Rattle.flat.specs.Caps.{value_limit, cap_of};
+ghost use Rattle.flat.specs.Packed.{packed, value_limit, goal_of, cap_of, unknown_goal};
 ghost use Rattle.flat.specs.Writes.{CallWrites};
 
-use table::{Chosen, Goal, Refusal, Table, Verdict, Written};
+use table::{Chosen, Goal, Refusal, Table, Written};
 
-// A refusal, with no value.
-pub fn refused(why: Refusal) -> u64
-    ensures { result ≡ packed (number_of why) 0 }
+// 99, after 20.
+pub fn unknown_goal(table: Table) -> u64
+    ensures { result ≡ unknown_goal table }
 {
-    table::number(why) as u64
-}
-
-// 99 for what is no goal, where nothing refuses the call earlier.
-pub fn no_goal(table: Table) -> u64
-    ensures { NoGoal table result }
-{
-    let asked = asks::inner::table_verdict(table);
-    match asked {
-        Verdict::Accepted => 99,
-        Verdict::Refused(why) => refused(why),
-    }
+    if table::well_formed(table) { 99 } else { 20 }
 }
 
 pub fn goal_of(goal: u64) -> Goal
@@ -35,12 +23,12 @@ pub fn goal_of(goal: u64) -> Goal
     }
 }
 
-// Every cap above the highest is too high, as the one after it is.
+// Every cap above 24 is too high, as 25 is.
 pub fn cap_of(cap: u64) -> u32
     ensures { result ≡ cap_of cap }
 {
-    if cap > table::CAP_LIMIT as u64 {
-        return table::CAP_LIMIT + 1;
+    if cap > 24 {
+        return 25;
     }
     cap as u32
 }
@@ -50,7 +38,7 @@ pub fn of_chosen(answer: Chosen) -> u64
 {
     match answer {
         Chosen::Tests(set) => set as u64 * 256,
-        Chosen::Refused(why) => refused(why),
+        Chosen::Refused(why) => table::number(why) as u64,
     }
 }
 
@@ -60,17 +48,17 @@ pub fn of_written(answer: Written) -> u64
 {
     match answer {
         Written::Bytes(count) => count as u64 * 256,
-        Written::Refused(why) => refused(why),
+        Written::Refused(why) => table::number(why) as u64,
     }
 }
 
 // The first n bytes over the front of the buffer, with a value.
 pub fn laid(bytes: [u8; 61], n: usize, value: usize, buf: &mut [u8]) -> u64
     requires { (n ≤ 61) × (value ≤ 61) }
-    ensures { CallWrites [] value (take n bytes) buf.old result buf.new }
+    ensures { CallWrites 0 value (take n bytes) buf.old result buf.new }
 {
     if buf.len() < n {
-        return refused(Refusal::BufferShort);
+        return 24;
     }
     text::inner::word(buf, 0, &bytes[..n]);
     value as u64 * 256

@@ -1,13 +1,13 @@
 // The bytes of a table, written to a lent buffer.
-ghost use Rattle.std.specs.Prelude.{[], ◌≤◌};
+ghost use Rattle.std.specs.Prelude.{◌≤◌};
 ghost use Rattle.folds.specs.Fold.{listed};
 ghost use Rattle.table.specs.Table.{cell_at};
-ghost use Rattle.text.specs.Writes.{Writes};
+ghost use Rattle.text.specs.Text.{Writes};
 ghost use Rattle.flat.specs.Writes.{CallWrites};
 ghost use Rattle.flat.specs.Flat.{cell_of, label_of, bytes_of};
 
 use crate::inner::LENGTH;
-use table::{Refusal, Table};
+use table::Table;
 
 fn write_cells(buf: &mut [u8], at: usize, outputs: &[u8; 1464]) -> usize
     ensures { Writes at (listed (cell_of (cell_at outputs.now)) 1464) buf.old result buf.new }
@@ -48,10 +48,10 @@ fn write_table(buf: &mut [u8], given: Table) -> usize
 // The bytes of the table over the front of the buffer, with the place.
 pub fn written(given: Table, place: usize, buf: &mut [u8]) -> u64
     requires { (given.tests ≤ 24) × (given.faults ≤ 60) × (place ≤ 5991) }
-    ensures { CallWrites [] place (bytes_of given) buf.old result buf.new }
+    ensures { CallWrites 0 place (bytes_of given) buf.old result buf.new }
 {
     if buf.len() < LENGTH {
-        return crate::inner::answers::refused(Refusal::BufferShort);
+        return 24;
     }
     write_table(buf, given);
     place as u64 * 256

@@ -35,22 +35,28 @@ fn labels_from(bytes: &[u8], from: usize) -> [u8; 60]
     labels
 }
 
+fn wide(byte: u8) -> usize
+    ensures { result ≡ byte }
+{
+    byte as usize
+}
+
 fn table_of(bytes: &[u8]) -> Table
     requires { length bytes.now ≡ 1586 }
     ensures { result ≡ table_of bytes.now }
 {
-    let tests = table::inner::wide(bytes[0]);
-    let faults = table::inner::wide(bytes[1]);
+    let tests = wide(bytes[0]);
+    let faults = wide(bytes[1]);
     let cells = cells_from(bytes);
     let lines = labels_from(bytes, 1466);
     let stuck = labels_from(bytes, 1526);
-    let mut given = table::empty_table();
-    given.tests = tests;
-    given.faults = faults;
-    given.cells = cells;
-    given.lines = lines;
-    given.stuck = stuck;
-    given
+    Table {
+        tests,
+        faults,
+        cells,
+        lines,
+        stuck,
+    }
 }
 
 // The table that is lent; one that is not well formed where the length is not a table's.
@@ -58,9 +64,13 @@ pub fn table_in(bytes: &[u8]) -> Table
     ensures { result ≡ lent_table bytes.now }
 {
     if bytes.len() != LENGTH {
-        let mut none = table::empty_table();
-        none.tests = 25;
-        return none;
+        return Table {
+            tests: 25,
+            faults: 0,
+            cells: [0; 1464],
+            lines: [0; 60],
+            stuck: [0; 60],
+        };
     }
     table_of(bytes)
 }

@@ -1,5 +1,5 @@
 use borrow.Author.Rules.{rules}
-use Rattle.pick.proofs.Print.{front, printed, unrefused}
+use Rattle.pick.proofs.Print.{front, printed}
 use Rattle.pick.proofs.print_report.Statement.{statement}
 use Rattle.pick.proofs.print_report.Tie as tie
 
@@ -24,9 +24,6 @@ write-all-requires c κs = search rules
 enum_told : tie.Need-enum-told
 enum_told c = search rules
 
-never-requires : tie.Need-never-requires
-never-requires c κs = search unrefused
-
 returns : tie.Need-returns
 returns c = search rules
 
@@ -44,6 +41,5 @@ print-report-spec =
     slice-aggregate-write-all
     write-all-requires
     enum_told
-    never-requires
     returns
     returns-2)

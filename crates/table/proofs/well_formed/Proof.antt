@@ -5,7 +5,7 @@ use borrow.Author.Tests.{le-leb, lt-leb, not-true, not-false}
 use borrow.Author.Rules.{rules}
 use Rattle.folds.specs.Fold.{every}
 use Rattle.table.specs.declared.Table.{Table}
-use Rattle.table.specs.Form.{label_right, row_right, well_formed}
+use Rattle.table.specs.Test.{label_right, row_right, well_formed}
 use Rattle.table.proofs.Formed.{tested_by}
 use Rattle.table.proofs.well_formed.Statement.{statement}
 use Rattle.table.proofs.well_formed.Tie as tie

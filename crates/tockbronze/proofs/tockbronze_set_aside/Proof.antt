@@ -7,11 +7,11 @@ use Rattle.tockbronze.proofs.tockbronze_set_aside.Tie as tie
 table-in-requires : tie.Need-table-in-requires
 table-in-requires c κs = search rules
 
-no-goal-requires : tie.Need-no-goal-requires
-no-goal-requires c κs = search rules
+unknown-goal-requires : tie.Need-unknown-goal-requires
+unknown-goal-requires c κs = search rules
 
 returns : tie.Need-returns
-returns c = no-goal GivesAside _ _ _ _ c.before.before.table-in.ensures c.before.if1.true c.no-goal.ensures
+returns c = no-goal GivesAside _ _ _ _ c.before.before.table-in.ensures c.before.if1.true c.unknown-goal.ensures
 
 goal-of-requires : tie.Need-goal-of-requires
 goal-of-requires c κs = search rules
@@ -30,7 +30,7 @@ tockbronze-set-aside-spec =
     tie.close
     (tie.spec
     table-in-requires
-    no-goal-requires
+    unknown-goal-requires
     returns
     goal-of-requires
     set-aside-requires

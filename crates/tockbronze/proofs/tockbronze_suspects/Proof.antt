@@ -1,5 +1,5 @@
 use borrow.Author.Rules.{rules}
-use Rattle.tockbronze.proofs.Laid.{suspects-refused, few-found, suspects-0}
+use Rattle.tockbronze.proofs.Laid.{few-found, suspects-0, suspects-refused}
 use Rattle.tockbronze.proofs.tockbronze_suspects.Statement.{statement}
 use Rattle.tockbronze.proofs.tockbronze_suspects.Tie as tie
 
@@ -13,13 +13,16 @@ enum_told : tie.Need-enum-told
 enum_told c = search rules
 
 laid-requires : tie.Need-laid-requires
-laid-requires c κs = (search few-found, search few-found)
+laid-requires c κs = (search (rules, few-found), search (rules, few-found))
 
 enum-known-verdict : tie.Need-enum-known-verdict
 enum-known-verdict c = search rules
 
-refused-requires : tie.Need-refused-requires
-refused-requires c κs = search rules
+number-requires : tie.Need-number-requires
+number-requires c κs = search rules
+
+cast-result : tie.Need-overflow-cast-result
+cast-result c = search rules
 
 same_length : tie.Need-same-length
 same_length c = search rules
@@ -39,7 +42,8 @@ tockbronze-suspects-spec =
     enum_told
     laid-requires
     enum-known-verdict
-    refused-requires
+    number-requires
+    cast-result
     same_length
     returns
     returns-2)

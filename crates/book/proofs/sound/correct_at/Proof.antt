@@ -14,15 +14,19 @@ returns : tie.Need-returns
 unfolding correct_at
 returns c = rw (lt-ltb _ _ c.if1.true)
 
-add-agrees : tie.Need-overflow-add-agrees
-add-agrees c = search rules
+cell-requires : tie.Need-cell-requires
+cell-requires c κs = search rules
 
-agrees-requires : tie.Need-agrees-requires
-agrees-requires c κs = search rules
+add-cell : tie.Need-overflow-add-cell
+add-cell c = search rules
+
+cell-requires-2 : tie.Need-cell-requires-2
+cell-requires-2 c κs = search rules
 
 returns-2 : tie.Need-returns-2
 unfolding correct_at
-returns-2 c = rw (le-ltb _ _ c.before.if1.false, ← c.agrees.ensures)
+returns-2 c = rw (le-ltb _ _ c.before.before.if1.false, ← c.before.cell.ensures, ← c.cell2.ensures)
 
 pub correct-at-spec : {M : Type 1} → statement M
-correct-at-spec = tie.close (tie.spec mul-if1 add-if1 returns add-agrees agrees-requires returns-2)
+correct-at-spec =
+    tie.close (tie.spec mul-if1 add-if1 returns cell-requires add-cell cell-requires-2 returns-2)

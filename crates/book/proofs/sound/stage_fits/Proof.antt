@@ -24,11 +24,14 @@ returns-2 c = search stages
 returns-3 : tie.Need-returns-3
 returns-3 c = search stages
 
-add-agrees : tie.Need-overflow-add-agrees
-add-agrees c = search rules
+cell-requires : tie.Need-cell-requires
+cell-requires c κs = search rules
 
-agrees-requires : tie.Need-agrees-requires
-agrees-requires c κs = search rules
+add-cell : tie.Need-overflow-add-cell
+add-cell c = search rules
+
+cell-requires-2 : tie.Need-cell-requires-2
+cell-requires-2 c κs = search rules
 
 returns-4 : tie.Need-returns-4
 returns-4 c = search stages
@@ -71,8 +74,9 @@ stage-fits-spec =
     enum-known-stage
     returns-2
     returns-3
-    add-agrees
-    agrees-requires
+    cell-requires
+    add-cell
+    cell-requires-2
     returns-4
     mul-correct-from
     add-correct-from

@@ -5,9 +5,9 @@ use native.Mathlib.Omega.{arith}
 use borrow.Author.Rules.{rules}
 use Rattle.folds.specs.Fold.{count, listed, onto}
 use Rattle.folds.proofs.Count.{count_start, count_fits}
-use Rattle.table.specs.Answers.{unlisted}
 use Rattle.table.specs.Table.{cell_at}
 use Rattle.terms.specs.Columns.{lowest, classNumber}
+use Rattle.classes.specs.Classes.{unnumbered}
 use Rattle.classes.proofs.Numbers.{numbers-start, old-next, old-number, new-next, new-number, numbers-end}
 use Rattle.classes.proofs.columns.numbers.Statement.{statement}
 use Rattle.classes.proofs.columns.numbers.Tie as tie
@@ -16,13 +16,13 @@ abbrev invariant-loop : tie.invariant-loop
 invariant-loop cells tests columns of₀ next₀ i₀ of next i =
     (i ≤ columns)
     × (next ≡ count (lowest (cell_at cells) tests) i)
-    × (of ≡ onto (listed (classNumber (cell_at cells) tests) i) unlisted)
+    × (of ≡ onto (listed (classNumber (cell_at cells) tests) i) unnumbered)
 
 abbrev decreases-loop : tie.decreases-loop
 decreases-loop cells tests columns of₀ next₀ i₀ of next i = columns - i
 
 loop-holds : tie.Need-loop-init invariant-loop decreases-loop
-unfolding unlisted
+unfolding unnumbered
 loop-holds c = (search rules, count_start _, numbers-start _ _)
 
 lowest-of-requires : tie.Need-lowest-of-requires invariant-loop decreases-loop

@@ -1,5 +1,5 @@
 use borrow.Author.Rules.{rules}
-use Rattle.classes.specs.Undetected.{undetected}
+use Rattle.classes.specs.Undetectable.{undetected}
 use Rattle.classes.proofs.columns.undetected.Statement.{statement}
 use Rattle.classes.proofs.columns.undetected.Tie as tie
 

@@ -5,7 +5,7 @@ use native.Mathlib.Omega.{arith}
 use borrow.Author.Rules.{rules}
 use Rattle.sets.proofs.Collect.{set-fits, set-up, collects}
 use Rattle.table.specs.Table.{cell_at}
-use Rattle.classes.specs.Undetected.{undetected}
+use Rattle.classes.specs.Undetectable.{undetected}
 use Rattle.sets.specs.Collect.{set_of}
 use Rattle.classes.proofs.columns.undetected_set.Statement.{statement}
 use Rattle.classes.proofs.columns.undetected_set.Tie as tie

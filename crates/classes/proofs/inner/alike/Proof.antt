@@ -2,8 +2,8 @@ use mathlib.Core.Path.{◌≡◌}
 use mathlib.Core.Bool.{true}
 use Prim.Native.Nat.{◌≤◌, ◌-◌}
 use borrow.Author.Rules.{rules}
-use Rattle.terms.specs.Columns.{alike}
-use Rattle.table.specs.Table.{cell_at, agrees}
+use Rattle.terms.specs.Columns.{agrees, alike}
+use Rattle.table.specs.Table.{cell_at}
 use Rattle.folds.specs.Fold.{every}
 use Rattle.folds.proofs.Every.{scan}
 use Rattle.classes.proofs.inner.alike.Statement.{statement}

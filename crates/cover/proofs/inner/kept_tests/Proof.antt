@@ -19,8 +19,8 @@ loop-holds c = (search rules, set-start _)
 is-kept-requires : tie.Need-is-kept-requires invariant-loop decreases-loop
 is-kept-requires c κs = search rules
 
-set-with-requires : tie.Need-set-with-requires invariant-loop decreases-loop
-set-with-requires c κs = (search rules, search collects)
+with-test-requires : tie.Need-with-test-requires invariant-loop decreases-loop
+with-test-requires c κs = (search rules, search collects)
 
 add-i : tie.Need-overflow-add-i invariant-loop decreases-loop
 add-i c = search rules
@@ -29,7 +29,7 @@ loop-less : tie.Need-loop-smaller invariant-loop decreases-loop
 loop-less c = search rules
 
 loop-again : tie.Need-loop-preserved invariant-loop decreases-loop
-loop-again c = (search rules, set-turn _ _ _ _ _ c.before.before.before.loop.invariant.1 c.before.is_kept.ensures c.set-with.ensures)
+loop-again c = (search rules, set-turn _ _ _ _ _ c.before.before.before.loop.invariant.1 c.before.is_kept.ensures c.with-test.ensures)
 
 returns : tie.Need-returns invariant-loop decreases-loop
 returns c = search collects
@@ -42,7 +42,7 @@ kept-tests-spec =
     decreases-loop
     loop-holds
     is-kept-requires
-    set-with-requires
+    with-test-requires
     add-i
     loop-less
     loop-again

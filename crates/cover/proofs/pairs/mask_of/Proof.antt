@@ -2,15 +2,14 @@ use mathlib.Core.Path.{◌≡◌}
 use Prim.Native.Nat.{◌≤◌, ◌-◌}
 use borrow.Author.Rules.{rules}
 use Rattle.sets.proofs.Collect.{set-turn, collects, set-start}
+use Rattle.table.specs.Table.{cell_at}
+use Rattle.cover.specs.Masks.{differs, mask_of}
 use Rattle.sets.specs.Collect.{set_of}
-use Rattle.table.specs.Table.{cell_at, separates}
-use Rattle.table.proofs.Cells.{separates_by}
-use Rattle.cover.specs.Masks.{mask_of}
 use Rattle.cover.proofs.pairs.mask_of.Statement.{statement}
 use Rattle.cover.proofs.pairs.mask_of.Tie as tie
 
 abbrev invariant-loop : tie.invariant-loop
-invariant-loop cells tests a b mask₀ i₀ mask i = (i ≤ tests) × (mask ≡ set_of (separates (cell_at cells) a b) i)
+invariant-loop cells tests a b mask₀ i₀ mask i = (i ≤ tests) × (mask ≡ set_of (differs (cell_at cells) a b) i)
 
 abbrev decreases-loop : tie.decreases-loop
 decreases-loop cells tests a b mask₀ i₀ mask i = tests - i
@@ -18,11 +17,11 @@ decreases-loop cells tests a b mask₀ i₀ mask i = tests - i
 loop-holds : tie.Need-loop-init invariant-loop decreases-loop
 loop-holds c = (search rules, set-start _)
 
-agrees-requires : tie.Need-agrees-requires invariant-loop decreases-loop
-agrees-requires c κs = search rules
+differs-requires : tie.Need-differs-requires invariant-loop decreases-loop
+differs-requires c κs = search rules
 
-set-with-requires : tie.Need-set-with-requires invariant-loop decreases-loop
-set-with-requires c κs = (search rules, search collects)
+with-test-requires : tie.Need-with-test-requires invariant-loop decreases-loop
+with-test-requires c κs = (search rules, search collects)
 
 add-i : tie.Need-overflow-add-i invariant-loop decreases-loop
 add-i c = search rules
@@ -31,10 +30,7 @@ loop-less : tie.Need-loop-smaller invariant-loop decreases-loop
 loop-less c = search rules
 
 loop-again : tie.Need-loop-preserved invariant-loop decreases-loop
-loop-again c = (
-  search rules,
-  set-turn _ _ _ _ _ c.before.before.before.loop.invariant.1 (separates_by _ _ _ _ _ c.before.agrees.ensures) c.set-with.ensures,
-)
+loop-again c = (search rules, set-turn _ _ _ _ _ c.before.before.before.loop.invariant.1 c.before.differs.ensures c.with-test.ensures)
 
 returns : tie.Need-returns invariant-loop decreases-loop
 unfolding mask_of
@@ -47,8 +43,8 @@ mask-of-spec =
     invariant-loop
     decreases-loop
     loop-holds
-    agrees-requires
-    set-with-requires
+    differs-requires
+    with-test-requires
     add-i
     loop-less
     loop-again

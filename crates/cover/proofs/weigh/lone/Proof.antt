@@ -4,7 +4,7 @@ use Prim.Native.Nat.{◌≤◌, ◌-◌}
 use borrow.Author.Rules.{rules}
 use lib.ListN.{length}
 use Rattle.cover.specs.Kept.{lone, is_at}
-use Rattle.folds.specs.Some.{some}
+use Rattle.folds.specs.Fold.{some}
 use Rattle.folds.proofs.Some.{finds}
 use Rattle.cover.proofs.weigh.lone.Statement.{statement}
 use Rattle.cover.proofs.weigh.lone.Tie as tie

@@ -1,5 +1,5 @@
 use borrow.Author.Rules.{rules}
-use Rattle.items.specs.Inner.{in_class}
+use Rattle.items.specs.Items.{in_class}
 use Rattle.items.proofs.inner.in_class.Statement.{statement}
 use Rattle.items.proofs.inner.in_class.Tie as tie
 

@@ -3,10 +3,10 @@ use Prim.Native.Nat.{◌≤◌, ◌-◌}
 use borrow.Author.Rules.{rules}
 use Rattle.folds.specs.Fold.{joined}
 use Rattle.text.proofs.Items.{items, items-start}
-use Rattle.text.specs.Writes.{Writes}
+use Rattle.text.specs.Text.{Writes}
 use Rattle.sets.specs.Sets.{has}
 use Rattle.table.specs.Table.{cell_at}
-use Rattle.items.specs.Inner.{output_item}
+use Rattle.items.specs.Items.{output_item}
 use Rattle.items.proofs.inner.outputs.Statement.{statement}
 use Rattle.items.proofs.inner.outputs.Tie as tie
 

@@ -1,5 +1,5 @@
 use borrow.Author.Rules.{rules}
-use Rattle.items.specs.Inner.{signature_text}
+use Rattle.items.specs.Items.{signature_text}
 use Rattle.items.proofs.Pieces.{list-none, list-some}
 use Rattle.items.proofs.inner.signature.Statement.{statement}
 use Rattle.items.proofs.inner.signature.Tie as tie

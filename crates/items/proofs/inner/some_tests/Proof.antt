@@ -3,7 +3,7 @@ use Prim.Native.Nat.{◌≤◌, ◌-◌}
 use borrow.Author.Rules.{rules}
 use Rattle.folds.specs.Fold.{joined}
 use Rattle.text.proofs.Items.{items, items-start}
-use Rattle.text.specs.Writes.{Writes}
+use Rattle.text.specs.Text.{Writes}
 use Rattle.sets.specs.Sets.{has}
 use Rattle.items.specs.Items.{spaced}
 use Rattle.items.proofs.inner.some_tests.Statement.{statement}

@@ -3,7 +3,7 @@ use Prim.Native.Nat.{◌≤◌, ◌-◌}
 use borrow.Author.Rules.{rules}
 use Rattle.folds.specs.Fold.{first}
 use Rattle.folds.proofs.First.{seek}
-use Rattle.items.specs.Inner.{in_class}
+use Rattle.items.specs.Items.{in_class}
 use Rattle.lines.proofs.inner.lowest_in.Statement.{statement}
 use Rattle.lines.proofs.inner.lowest_in.Tie as tie
 

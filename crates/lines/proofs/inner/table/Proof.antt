@@ -1,5 +1,5 @@
 use borrow.Author.Rules.{rules}
-use Rattle.lines.proofs.Numbers.{none_empty}
+use Rattle.lines.proofs.Numbers.{numbered}
 use Rattle.lines.proofs.Pieces.{formed_faults, formed_tests, table_done}
 use Rattle.lines.proofs.inner.table.Statement.{statement}
 use Rattle.lines.proofs.inner.table.Tie as tie
@@ -14,7 +14,7 @@ sets-requires : tie.Need-sets-requires
 sets-requires c κs = search rules
 
 classes-requires : tie.Need-classes-requires
-classes-requires c κs = (search formed_tests, search formed_faults, search none_empty)
+classes-requires c κs = (search formed_tests, search formed_faults, search numbered)
 
 same_length : tie.Need-same-length
 same_length c = search rules

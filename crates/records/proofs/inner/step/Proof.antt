@@ -1,7 +1,5 @@
 use mathlib.Core.Logic.{⊎_elim}
 use borrow.Author.Rules.{rules}
-use Rattle.checks.specs.Check.{first_of}
-use Rattle.records.specs.Step.{kindRule, unknownRule}
 use Rattle.records.proofs.Judged.{kinds}
 use Rattle.records.proofs.inner.step.Statement.{statement}
 use Rattle.records.proofs.inner.step.Tie as tie
@@ -40,23 +38,18 @@ refuse-requires : tie.Need-refuse-requires
 refuse-requires c κs = search rules
 
 returns-3 : tie.Need-returns-3
-unfolding kindRule
 returns-3 c = search kinds
 
 returns-4 : tie.Need-returns-4
-unfolding kindRule
 returns-4 c = search kinds
 
 returns-5 : tie.Need-returns-5
-unfolding kindRule
 returns-5 c = search kinds
 
 returns-6 : tie.Need-returns-6
-unfolding kindRule
 returns-6 c = search kinds
 
 returns-7 : tie.Need-returns-7
-unfolding kindRule unknownRule first_of
 returns-7 c = ⊎_elim (λ w. search kinds) (λ w. search kinds) c.before.match.branch
 
 pub step_spec : {M : Type 1} → statement M

@@ -50,8 +50,8 @@ returns-4 : tie.Need-returns-4
 unfolding faultRule
 returns-4 c = search judges depth 14
 
-new-label-requires : tie.Need-new-label-requires
-new-label-requires c κs = search rules
+is-new-requires : tie.Need-is-new-requires
+is-new-requires c κs = search rules
 
 refuse-requires-5 : tie.Need-refuse-requires-5
 refuse-requires-5 c κs = search rules
@@ -91,7 +91,7 @@ fault-record-spec =
     shared-slice-read-stuck
     refuse-requires-4
     returns-4
-    new-label-requires
+    is-new-requires
     refuse-requires-5
     returns-5
     with-fault-requires

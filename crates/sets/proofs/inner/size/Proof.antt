@@ -10,19 +10,19 @@ use Rattle.sets.proofs.inner.size.Statement.{statement}
 use Rattle.sets.proofs.inner.size.Tie as tie
 
 abbrev invariant-loop : tie.invariant-loop
-invariant-loop set n held₀ i₀ held i = (i ≤ n) × (held ≡ count (has set) i)
+invariant-loop set tests n₀ i₀ n i = (i ≤ tests) × (n ≡ count (has set) i)
 
 abbrev decreases-loop : tie.decreases-loop
-decreases-loop set n held₀ i₀ held i = n - i
+decreases-loop set tests n₀ i₀ n i = tests - i
 
 loop-holds : tie.Need-loop-init invariant-loop decreases-loop
 loop-holds c = (search rules, count_start _)
 
-holds-requires : tie.Need-holds-requires invariant-loop decreases-loop
-holds-requires c κs = search rules
+has-requires : tie.Need-has-requires invariant-loop decreases-loop
+has-requires c κs = search rules
 
-add-held : tie.Need-overflow-add-held invariant-loop decreases-loop
-add-held c = omega (arith, count_fits _ _ _ c.before.before.before.loop.invariant.1)
+add-n : tie.Need-overflow-add-n invariant-loop decreases-loop
+add-n c = omega (arith, count_fits _ _ _ c.before.before.before.loop.invariant.1)
 
 add-i : tie.Need-overflow-add-i invariant-loop decreases-loop
 add-i c = search rules
@@ -39,4 +39,4 @@ returns c = search tally
 pub size-spec : {M : Type 1} → statement M
 size-spec =
     tie.close
-    (tie.spec invariant-loop decreases-loop loop-holds holds-requires add-held add-i loop-less loop-again returns)
+    (tie.spec invariant-loop decreases-loop loop-holds has-requires add-n add-i loop-less loop-again returns)

@@ -1,6 +1,6 @@
 use borrow.Author.Tests.{le-leb, lt-leb, lt-ltb, le-ltb}
 use borrow.Author.Rules.{rules}
-use Rattle.table.specs.Form.{cell_right}
+use Rattle.table.specs.Test.{cell_right}
 use Rattle.table.proofs.form.cell_right.Statement.{statement}
 use Rattle.table.proofs.form.cell_right.Tie as tie
 

@@ -1,6 +1,6 @@
 use borrow.Author.Tests.{le-leb, lt-leb, lt-ltb, le-ltb, eq-eqb, ne_eqb}
 use borrow.Author.Rules.{rules}
-use Rattle.table.specs.Form.{label_right}
+use Rattle.table.specs.Test.{label_right}
 use Rattle.table.proofs.form.label_right.Statement.{statement}
 use Rattle.table.proofs.form.label_right.Tie as tie
 
@@ -25,18 +25,12 @@ returns-3 : tie.Need-returns-3
 unfolding label_right
 returns-3 c = simp (lt-ltb _ _ c.before.before.if1.false, lt-leb _ _ c.if3.true)
 
-element-copy-out-new-label : tie.Need-element-copy-out-new-label
-element-copy-out-new-label c = search rules
-
-element-copy-out-new-label-2 : tie.Need-element-copy-out-new-label-2
-element-copy-out-new-label-2 c = search rules
-
-new-label-requires : tie.Need-new-label-requires
-new-label-requires c κs = search rules
+fresh-requires : tie.Need-fresh-requires
+fresh-requires c κs = search rules
 
 returns-4 : tie.Need-returns-4
 unfolding label_right
-returns-4 c = simp (lt-ltb _ _ c.before.before.before.before.before.if1.false, le-leb _ _ c.before.before.before.if3.false, c.new-label.ensures)
+returns-4 c = simp (lt-ltb _ _ c.before.before.before.if1.false, le-leb _ _ c.before.if3.false, c.fresh.ensures)
 
 pub label-right-spec : {M : Type 1} → statement M
 label-right-spec =
@@ -48,7 +42,5 @@ label-right-spec =
     returns-2
     element-copy-out-if3
     returns-3
-    element-copy-out-new-label
-    element-copy-out-new-label-2
-    new-label-requires
+    fresh-requires
     returns-4)

@@ -2,7 +2,7 @@ use mathlib.Core.Path.{◌≡◌}
 use mathlib.Core.Bool.{true}
 use Prim.Native.Nat.{◌≤◌, ◌-◌}
 use borrow.Author.Rules.{rules}
-use Rattle.table.specs.Form.{cell_right, row_right}
+use Rattle.table.specs.Test.{cell_right, row_right}
 use Rattle.folds.specs.Fold.{every}
 use Rattle.folds.proofs.Every.{scan}
 use Rattle.table.proofs.form.row_right.Statement.{statement}

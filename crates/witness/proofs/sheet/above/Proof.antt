@@ -1,6 +1,6 @@
 use borrow.Author.Tests.{lt-ltb, le-ltb}
 use borrow.Author.Rules.{rules}
-use Rattle.witness.specs.Inner.{above_in}
+use Rattle.witness.specs.Witness.{above_in}
 use Rattle.witness.proofs.sheet.above.Statement.{statement}
 use Rattle.witness.proofs.sheet.above.Tie as tie
 

@@ -4,13 +4,13 @@ use borrow.Author.Rules.{rules}
 use Rattle.folds.proofs.First.{seek}
 use Rattle.folds.specs.Fold.{first}
 use Rattle.table.specs.Table.{cell_at}
-use Rattle.witness.specs.Witness.{separatesIn}
+use Rattle.witness.specs.Witness.{separates}
 use Rattle.witness.proofs.Rows.{witness-found, witness-none}
 use Rattle.witness.proofs.sheet.witness.Statement.{statement}
 use Rattle.witness.proofs.sheet.witness.Tie as tie
 
 abbrev invariant-loop : tie.invariant-loop
-invariant-loop cells tests set a b i₀ i = (i ≤ tests) × (first (separatesIn (cell_at cells) set a b) i ≡ i)
+invariant-loop cells tests set a b i₀ i = (i ≤ tests) × (first (separates (cell_at cells) set a b) i ≡ i)
 
 abbrev decreases-loop : tie.decreases-loop
 decreases-loop cells tests set a b i₀ i = tests - i
@@ -18,8 +18,8 @@ decreases-loop cells tests set a b i₀ i = tests - i
 loop-holds : tie.Need-loop-init invariant-loop decreases-loop
 loop-holds c = (search rules, search seek)
 
-separates-in-requires : tie.Need-separates-in-requires invariant-loop decreases-loop
-separates-in-requires c κs = search rules
+separates-requires : tie.Need-separates-requires invariant-loop decreases-loop
+separates-requires c κs = search rules
 
 cast-result : tie.Need-overflow-cast-result invariant-loop decreases-loop
 cast-result c = search rules
@@ -46,7 +46,7 @@ witness-spec =
     invariant-loop
     decreases-loop
     loop-holds
-    separates-in-requires
+    separates-requires
     cast-result
     returns
     add-i

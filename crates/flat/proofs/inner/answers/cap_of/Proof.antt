@@ -3,12 +3,6 @@ use Rattle.flat.proofs.Numbers.{cap_high, cap_low}
 use Rattle.flat.proofs.inner.answers.cap_of.Statement.{statement}
 use Rattle.flat.proofs.inner.answers.cap_of.Tie as tie
 
-cast-if1 : tie.Need-overflow-cast-if1
-cast-if1 c = search rules
-
-add-result : tie.Need-overflow-add-result
-add-result c = search rules
-
 returns : tie.Need-returns
 returns c = search cap_high
 
@@ -19,4 +13,4 @@ returns-2 : tie.Need-returns-2
 returns-2 c = search cap_low
 
 pub cap-of-spec : {M : Type 1} → statement M
-cap-of-spec = tie.close (tie.spec cast-if1 add-result returns cast-result returns-2)
+cap-of-spec = tie.close (tie.spec returns cast-result returns-2)

@@ -3,9 +3,6 @@ use Rattle.flat.proofs.Laid.{part-size, laid-short, laid-all}
 use Rattle.flat.proofs.inner.answers.laid.Statement.{statement}
 use Rattle.flat.proofs.inner.answers.laid.Tie as tie
 
-refused-requires : tie.Need-refused-requires
-refused-requires c κs = search rules
-
 returns : tie.Need-returns
 returns c = search laid-short
 
@@ -31,7 +28,6 @@ pub laid-spec : {M : Type 1} → statement M
 laid-spec =
     tie.close
     (tie.spec
-    refused-requires
     returns
     array-share-prefix-bytes
     slice-aggregate-word

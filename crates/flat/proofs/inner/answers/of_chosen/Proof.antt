@@ -15,8 +15,11 @@ mul-result c = search rules
 enum-known-answer-2 : tie.Need-enum-known-answer-2
 enum-known-answer-2 c = search rules
 
-refused-requires : tie.Need-refused-requires
-refused-requires c κs = search rules
+number-requires : tie.Need-number-requires
+number-requires c κs = search rules
+
+cast-result-2 : tie.Need-overflow-cast-result-2
+cast-result-2 c = search rules
 
 returns : tie.Need-returns
 returns c = tests_packed _ _ c.before.answer.given.1
@@ -32,6 +35,7 @@ of-chosen-spec =
     cast-result
     mul-result
     enum-known-answer-2
-    refused-requires
+    number-requires
+    cast-result-2
     returns
     returns-2)

@@ -13,8 +13,11 @@ mul-result c = omega (arith, count-below _ _ c.before.answer.given.1 c.before.be
 enum-known-answer-2 : tie.Need-enum-known-answer-2
 enum-known-answer-2 c = search rules
 
-refused-requires : tie.Need-refused-requires
-refused-requires c κs = search rules
+number-requires : tie.Need-number-requires
+number-requires c κs = search rules
+
+cast-result : tie.Need-overflow-cast-result
+cast-result c = search rules
 
 returns : tie.Need-returns
 returns c = search count-packed
@@ -25,4 +28,11 @@ returns-2 c = search unwritten_packed
 pub of-written-spec : {M : Type 1} → statement M
 of-written-spec =
     tie.close
-    (tie.spec enum-known-answer mul-result enum-known-answer-2 refused-requires returns returns-2)
+    (tie.spec
+    enum-known-answer
+    mul-result
+    enum-known-answer-2
+    number-requires
+    cast-result
+    returns
+    returns-2)

@@ -3,7 +3,7 @@ use native.Mathlib.Omega.{arith}
 use borrow.Author.Rules.{rules}
 use Rattle.folds.specs.Fold.{listed}
 use Rattle.table.specs.Table.{cell_at}
-use Rattle.text.specs.Writes.{Writes}
+use Rattle.text.specs.Text.{Writes}
 use Rattle.text.proofs.Writes.{writes_length}
 use Rattle.flat.specs.Flat.{cell_of}
 use Rattle.flat.proofs.Written.{list-start, list-each, list-end, cell_at_place}

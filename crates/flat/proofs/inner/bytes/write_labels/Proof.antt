@@ -1,7 +1,7 @@
 use Prim.Native.Nat.{◌≤◌, ◌-◌}
 use borrow.Author.Rules.{rules}
 use Rattle.folds.specs.Fold.{listed}
-use Rattle.text.specs.Writes.{Writes}
+use Rattle.text.specs.Text.{Writes}
 use Rattle.text.proofs.Writes.{writes_length}
 use Rattle.flat.specs.Flat.{label_of}
 use Rattle.flat.proofs.Written.{list-start, list-each, list-end, label_at}

@@ -3,9 +3,6 @@ use Rattle.flat.proofs.Written.{given-short, given-all}
 use Rattle.flat.proofs.inner.bytes.written.Statement.{statement}
 use Rattle.flat.proofs.inner.bytes.written.Tie as tie
 
-refused-requires : tie.Need-refused-requires
-refused-requires c κs = search rules
-
 returns : tie.Need-returns
 returns c = search given-short
 
@@ -22,6 +19,4 @@ returns-2 : tie.Need-returns-2
 returns-2 c = search given-all
 
 pub written-spec : {M : Type 1} → statement M
-written-spec =
-    tie.close
-    (tie.spec refused-requires returns write-table-requires mul-result same_length returns-2)
+written-spec = tie.close (tie.spec returns write-table-requires mul-result same_length returns-2)

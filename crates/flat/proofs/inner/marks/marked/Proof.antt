@@ -1,22 +1,22 @@
 use borrow.Author.Rules.{rules}
-use Rattle.flat.proofs.Marked.{size_fits, marked-short, marked_all}
+use Rattle.flat.proofs.Marked.{sum-above, marked-short, marked_all}
 use Rattle.flat.proofs.inner.marks.marked.Statement.{statement}
 use Rattle.flat.proofs.inner.marks.marked.Tie as tie
-
-refused-requires : tie.Need-refused-requires
-refused-requires c κs = search rules
 
 returns : tie.Need-returns
 returns c = search marked-short
 
+set-of-requires : tie.Need-set-of-requires
+set-of-requires c κs = search rules
+
 write-marks-requires : tie.Need-write-marks-requires
 write-marks-requires c κs = search rules
 
-size-requires : tie.Need-size-requires
-size-requires c κs = search rules
+how-many-requires : tie.Need-how-many-requires
+how-many-requires c κs = search rules
 
 mul-result : tie.Need-overflow-mul-result
-mul-result c = search size_fits
+mul-result c = search sum-above
 
 same_length : tie.Need-same-length
 same_length c = search rules
@@ -28,10 +28,10 @@ pub marked-spec : {M : Type 1} → statement M
 marked-spec =
     tie.close
     (tie.spec
-    refused-requires
     returns
+    set-of-requires
     write-marks-requires
-    size-requires
+    how-many-requires
     mul-result
     same_length
     returns-2)

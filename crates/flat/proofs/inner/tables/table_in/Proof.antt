@@ -1,13 +1,12 @@
 use borrow.Author.Rules.{rules}
+use Rattle.flat.specs.Flat.{no_table}
 use Rattle.flat.proofs.Given.{lent_none, lent-table}
 use Rattle.flat.proofs.inner.tables.table_in.Statement.{statement}
 use Rattle.flat.proofs.inner.tables.table_in.Tie as tie
 
-empty-table-requires : tie.Need-empty-table-requires
-empty-table-requires c κs = search rules
-
 returns : tie.Need-returns
-returns c = search lent_none
+unfolding no_table
+returns c = lent_none _ c.if1.true
 
 table-of-requires : tie.Need-table-of-requires
 table-of-requires c κs = search rules
@@ -16,4 +15,4 @@ returns-2 : tie.Need-returns-2
 returns-2 c = search lent-table
 
 pub table-in-spec : {M : Type 1} → statement M
-table-in-spec = tie.close (tie.spec empty-table-requires returns table-of-requires returns-2)
+table-in-spec = tie.close (tie.spec returns table-of-requires returns-2)

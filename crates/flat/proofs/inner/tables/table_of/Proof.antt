@@ -24,9 +24,6 @@ labels-from-requires c κs = search rules
 labels-from-requires-2 : tie.Need-labels-from-requires-2
 labels-from-requires-2 c κs = search rules
 
-empty-table-requires : tie.Need-empty-table-requires
-empty-table-requires c κs = search rules
-
 returns : tie.Need-returns
 returns c = search table_right
 
@@ -41,5 +38,4 @@ table-of-spec =
     cells-from-requires
     labels-from-requires
     labels-from-requires-2
-    empty-table-requires
     returns)

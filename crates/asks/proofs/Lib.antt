@@ -1,3 +1,0 @@
-pub mod Numbered
-pub mod Asked
-pub mod Answers

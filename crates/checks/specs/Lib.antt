@@ -1,4 +1,0 @@
-pub mod Check
-pub mod Refuses
-pub mod Cursor
-pub mod Reached
