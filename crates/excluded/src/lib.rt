@@ -1,1 +1,2 @@
 // What follows from the promises of the calls: laws in proofs/. No code.
+#![tactic(auto)]

@@ -1,1 +1,2 @@
 // Lists and loops: definitions in specs/, their laws in proofs/. No code.
+#![tactic(auto)]

@@ -1,2 +1,4 @@
 // A table with one more test, fault or response.
+#![tactic(auto)]
+
 pub mod inner;

@@ -1,4 +1,5 @@
 // Reads a fault book from standard input and prints what it holds.
+#![tactic(auto)]
 ghost use Rattle.pick.specs.Input.{Holds};
 
 use libc::{STDIN_FILENO, STDOUT_FILENO};

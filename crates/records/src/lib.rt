@@ -1,4 +1,5 @@
 // The records of a fault book: what each kind gives, or why it is refused.
+#![tactic(auto)]
 use table::{Refusal, Table};
 
 pub mod inner;

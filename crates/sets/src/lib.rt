@@ -1,2 +1,4 @@
 // Sets of tests as numbers: bit t stands for test t.
+#![tactic(auto)]
+
 pub mod inner;

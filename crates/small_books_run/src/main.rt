@@ -1,4 +1,5 @@
 // Runs document 01's small books, the sizes at their edges, and the full adder; `stdout` has what the document says of them.
+#![tactic(auto)]
 mod card;
 mod edges;
 mod show;

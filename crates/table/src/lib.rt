@@ -1,4 +1,6 @@
 // The fault table by value, and the answers of every call.
+#![tactic(auto)]
+
 ghost use Rattle.std.specs.Prelude.{◌≡◌};
 ghost use Rattle.table.specs.Answers.{number_of};
 ghost use Rattle.table.specs.Table.{empty_table};

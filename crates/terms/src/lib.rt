@@ -1,1 +1,2 @@
 // The paper's terms: definitions in specs/. No code.
+#![tactic(auto)]

@@ -1,5 +1,6 @@
 // The calls for programs in other languages, on numbers and bytes. A table is lent as 1,586 bytes; an answer is one number, the
 // refusal in its low 8 bits and the value above them.
+#![tactic(auto)]
 ghost use Rattle.tockbronze.specs.Calls.{AsideCall, EssentialCall, ChooseCall, DictionaryCall, SheetCall, ReportCall, ClassesCall, SuspectsCall, UndetectableCall, ReadCall};
 
 use flat::inner::{answers, bytes, marks, tables};

@@ -1,4 +1,5 @@
 // Runs every exported call on the cases of the file data/cases, and prints the answers with the state of the lent memory.
+#![tactic(auto)]
 use table::Table;
 
 mod books;

@@ -7,8 +7,7 @@ use Rattle.folds.specs.Fold.{every}
 use Rattle.table.specs.declared.Table.{Table}
 use Rattle.table.specs.Test.{label_right, row_right, well_formed}
 use Rattle.table.proofs.Formed.{tested_by}
-use Rattle.table.proofs.well_formed.Statement.{statement}
-use Rattle.table.proofs.well_formed.Tie as tie
+use Rattle.table.proofs.well_formed.Goals as goal
 
 module _ (tb : Table) where
   many-tests : 24 < tb.tests → false ≡ well_formed tb
@@ -29,25 +28,14 @@ module _ (tb : Table) where
       unfolding well_formed
       by_rows n r₂ e₂ = simp (le-leb _ _ h, le-leb _ _ k, ← e, not-false r n, e₂)
 
-returns : tie.Need-returns
-returns c = tested_by _ _ (search many-tests)
+pub returns-then-tests-gt24 : goal.returns-then-tests-gt24
+returns-then-tests-gt24 c = tested_by _ _ (search many-tests)
 
-returns-2 : tie.Need-returns-2
-returns-2 c = tested_by _ _ (search many-faults)
+pub returns-then-faults-gt60 : goal.returns-then-faults-gt60
+returns-then-faults-gt60 c = tested_by _ _ (search many-faults)
 
-labels-right-requires : tie.Need-labels-right-requires
-labels-right-requires c κs = search rules
+pub returns-then-not-labels_right : goal.returns-then-not-labels_right
+returns-then-not-labels_right c = tested_by _ _ (search wrong-labels)
 
-returns-3 : tie.Need-returns-3
-returns-3 c = tested_by _ _ (search wrong-labels)
-
-rows-right-requires : tie.Need-rows-right-requires
-rows-right-requires c κs = search rules
-
-returns-4 : tie.Need-returns-4
-returns-4 c = tested_by _ _ (search by_rows)
-
-pub well-formed-spec : {M : Type 1} → statement M
-well-formed-spec =
-    tie.close
-    (tie.spec returns returns-2 labels-right-requires returns-3 rows-right-requires returns-4)
+pub returns : goal.returns
+returns c = tested_by _ _ (search by_rows)

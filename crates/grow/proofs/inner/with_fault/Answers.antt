@@ -1,0 +1,5 @@
+use borrow.Author.Rules.{rules}
+use Rattle.grow.proofs.inner.with_fault.Goals as goal
+
+pub returns : goal.returns
+returns c = rw c.filled-cells.ensures

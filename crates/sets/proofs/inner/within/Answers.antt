@@ -1,0 +1,6 @@
+use borrow.Author.Rules.{rules}
+use Rattle.sets.proofs.Bits.{within_shift}
+use Rattle.sets.proofs.inner.within.Goals as goal
+
+pub returns : goal.returns
+returns c = within_shift _ _

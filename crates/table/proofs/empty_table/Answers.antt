@@ -1,0 +1,7 @@
+use mathlib.Core.Path.{refl}
+use Rattle.table.specs.Table.{empty_table}
+use Rattle.table.proofs.empty_table.Goals as goal
+
+pub returns : goal.returns
+unfolding empty_table
+returns c = refl
