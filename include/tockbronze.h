@@ -1,14 +1,9 @@
 /* Tockbronze for C and C++: the fewest tests for a small card of gates, and the
    suspects when a card fails.
 
-   Proved, for every input: what each function in the archive answers and what it
-   leaves of lent memory, on slices and numbers (docs/PROMISES.md). Tested, against
-   an independent implementation in C (tests/c): that this header says the same,
-   and that C's calls reach those functions. Measured: time and stack.
-
-   Link target/staticlib/libtockbronze.a, which `rt staticlib tockbronze` makes
-   (x86-64); examples/c/build does both. Header and archive fit where
-   tockbronze_version() is TOCKBRONZE_VERSION.
+   The functions are proved, for every input, to answer as is said here. Link
+   target/staticlib/libtockbronze.a, which `rt staticlib tockbronze` makes
+   (x86-64); examples/c/build does both.
 
    A slice is passed as a pointer and its length in bytes. The pointer may be
    null where the length is 0. Lent memory must not overlap, and each slice must
@@ -16,10 +11,9 @@
    allocated, so calls in several threads need no lock.
 
    A result is one number: TOCKBRONZE_NUMBER gives the refusal number, 0 where
-   the call is accepted, and TOCKBRONZE_VALUE the value. Ask for the number first:
-   the value of a refused call is no answer (it is 0, which is also the empty set,
-   or the place where reading stopped). A refused call leaves every buffer as it
-   was. An accepted call writes its answer at the start of the buffer, and the
+   the call is accepted, and TOCKBRONZE_VALUE the value. A refused call has the
+   value 0 (but for the place where reading stopped) and leaves every buffer as
+   it was. An accepted call writes its answer at the start of the buffer, and the
    bytes past the answer stay as they were. The refusals of a call are tested in
    the order in which they are listed with it. */
 #ifndef TOCKBRONZE_H
@@ -31,9 +25,6 @@
 #ifdef __cplusplus
 extern "C" {
 #endif
-
-/* Rises when a lent layout or an answer changes. */
-#define TOCKBRONZE_VERSION 1
 
 #define TOCKBRONZE_NUMBER(result) ((unsigned)((result) & 255u))
 #define TOCKBRONZE_VALUE(result) ((uint64_t)(result) >> 8)
@@ -49,27 +40,21 @@ extern "C" {
 
    No two faults have the same line and stuck value, and what is not in use is
    zero. tockbronze_read gives such tables, and every call refuses any other with
-   TOCKBRONZE_NOT_WELL_FORMED. */
+   TOCKBRONZE_BAD_TABLE. */
 #define TOCKBRONZE_TABLE_LENGTH 1586
 #define TOCKBRONZE_CELLS 2
 #define TOCKBRONZE_LINES 1466
 #define TOCKBRONZE_STUCK 1526
 
-/* Lengths that hold every answer (proved). */
+/* Lengths that hold every answer. */
 #define TOCKBRONZE_MOST_COLUMNS 61
 #define TOCKBRONZE_MOST_FAULTS 60
 #define TOCKBRONZE_MOST_DICTIONARY 1464
 #define TOCKBRONZE_MOST_WITNESS_SHEET 1830
 #define TOCKBRONZE_MOST_REPORT 7364
 
-/* No call takes more bytes of stack than this (measured: the report takes most, 38,000). */
-#define TOCKBRONZE_MOST_STACK 65536
-
-/* The longest book that is accepted, and how many bytes of any input settle the
-   answer. Lend one byte more than the longest book where the input has it: a byte
-   that follows the end record is refused, and a shorter slice would not show it. */
+/* The longest book that is accepted. */
 #define TOCKBRONZE_LONGEST_BOOK 5991
-#define TOCKBRONZE_SETTLES 5992
 
 /* The goals: separate column 0 from each fault, or every two columns; always
    only those that some test of the table separates. */
@@ -77,38 +62,34 @@ extern "C" {
 #define TOCKBRONZE_DIAGNOSE 1
 
 /* Refusal numbers of a book. */
-#define TOCKBRONZE_UNKNOWN_KIND 1     /* a kind byte other than 54, 46, 52, 45 hex */
-#define TOCKBRONZE_BODY_CUT 2         /* the body is cut short */
-#define TOCKBRONZE_NO_END 3           /* the book stops with no end record */
-#define TOCKBRONZE_OUT_OF_PLACE 4     /* a test after a fault or response, or a fault after a response */
-#define TOCKBRONZE_TOO_MANY 5         /* a 25th test or a 61st fault */
-#define TOCKBRONZE_STUCK_VALUE 6      /* stuck value above 1 */
-#define TOCKBRONZE_SAME_LABEL 7       /* same line and value as an earlier fault */
-#define TOCKBRONZE_NOT_IN_BOOK 8      /* a response names a test or fault that the book lacks */
-#define TOCKBRONZE_NOT_AFTER 9        /* a response is not after the one before it */
-#define TOCKBRONZE_REPEATS_CORRECT 10 /* a response repeats the correct output */
-#define TOCKBRONZE_WRONG_COUNTS 11    /* the end's counts are not those read */
-#define TOCKBRONZE_BYTES_FOLLOW 12    /* a byte follows the end */
+#define TOCKBRONZE_BAD_KIND 1        /* a kind byte other than 54, 46, 52, 45 hex */
+#define TOCKBRONZE_CUT_SHORT 2       /* the body is cut short */
+#define TOCKBRONZE_NO_END 3          /* the book stops with no end record */
+#define TOCKBRONZE_OUT_OF_PLACE 4    /* a test after a fault or response, or a fault after a response */
+#define TOCKBRONZE_TOO_MANY 5        /* a 25th test or a 61st fault */
+#define TOCKBRONZE_BAD_STUCK 6       /* stuck value above 1 */
+#define TOCKBRONZE_REPEATED_FAULT 7  /* same line and value as an earlier fault */
+#define TOCKBRONZE_UNKNOWN 8         /* a response names a test or fault that the book lacks */
+#define TOCKBRONZE_NOT_RISING 9      /* a response is not after the one before it */
+#define TOCKBRONZE_NO_DIFFERENCE 10  /* a response repeats the correct output */
+#define TOCKBRONZE_BAD_COUNTS 11     /* the end's counts are not those read */
+#define TOCKBRONZE_AFTER_END 12      /* a byte follows the end */
 
 /* Refusal numbers of a call. */
-#define TOCKBRONZE_NOT_WELL_FORMED 20 /* the table is not well formed, or its length is not 1,586 */
-#define TOCKBRONZE_UNKNOWN_TEST 21    /* the set holds a test that the table lacks */
-#define TOCKBRONZE_CAP_TOO_HIGH 22    /* a cap above 24 */
-#define TOCKBRONZE_NONE_WITHIN_CAP 23 /* no set within the cap reaches the goal */
-#define TOCKBRONZE_BUFFER_SHORT 24    /* the lent buffer is shorter than the answer */
-#define TOCKBRONZE_NOT_ONE_EACH 25    /* the observed outputs are not one for each test of the set */
-#define TOCKBRONZE_NO_GOAL 99         /* a goal other than 0 and 1 */
-
-/* TOCKBRONZE_VERSION of the header that the archive was made with. */
-uint64_t tockbronze_version(void);
+#define TOCKBRONZE_BAD_TABLE 20      /* the table is not well formed, or its length is not 1,586 */
+#define TOCKBRONZE_BAD_SET 21        /* the set holds a test that the table lacks */
+#define TOCKBRONZE_BAD_CAP 22        /* a cap above 24 */
+#define TOCKBRONZE_NO_SET 23         /* no set within the cap reaches the goal */
+#define TOCKBRONZE_SHORT_BUFFER 24   /* the lent buffer is shorter than the answer */
+#define TOCKBRONZE_BAD_OUTPUTS 25    /* the observed outputs are not one for each test of the set */
+#define TOCKBRONZE_BAD_GOAL 99       /* a goal other than 0 and 1 */
 
 /* Reads a fault book into a table.
    Needs: the whole book, and room for a table.
    Gives: the book's length; the table in the first 1,586 bytes of `table`.
    Refuses: 1 to 12, where the value is the place of the first byte of the record
    that is wrong (for 3 the book's length, for 12 the place of the byte after the
-   end record); then 24 where `table` is shorter than 1,586. `table` then keeps the
-   table that was there: look at the number before you use it. */
+   end record); then 24 where `table` is shorter than 1,586. */
 uint64_t tockbronze_read(const uint8_t *book, size_t book_length,
                          uint8_t *table, size_t table_length);
 
@@ -147,10 +128,6 @@ uint64_t tockbronze_essential(const uint8_t *table, size_t table_length,
    one is chosen that holds the lowest test number in which they differ.
    Needs: a table, a goal, and a cap: how many tests the set may hold, at most 24.
    Gives: the set, bit t for test t.
-   Takes: measured on x86-64, on the hard books in examples/ at most half a
-   millisecond, on the worst of some thousands of random tables 50. No bound is
-   proved: tests are decided one by one, and 6 more can make it 25 times slower.
-   The cap does not make it quicker. tockbronze_report chooses twice.
    Refuses: 20, 99, 22, 23. */
 uint64_t tockbronze_choose(const uint8_t *table, size_t table_length,
                            uint64_t goal, uint64_t cap);

@@ -15,10 +15,10 @@ static long decimal(const char *text, char **end, long most)
 }
 
 /* One byte more than the longest book, so that a longer one is refused. */
-static size_t read_file(const char *name, uint8_t book[TOCKBRONZE_SETTLES])
+static size_t read_file(const char *name, uint8_t book[TOCKBRONZE_LONGEST_BOOK + 1])
 {
     FILE *file = fopen(name, "rb");
-    size_t length = file ? fread(book, 1, TOCKBRONZE_SETTLES, file) : 0;
+    size_t length = file ? fread(book, 1, TOCKBRONZE_LONGEST_BOOK + 1, file) : 0;
     if (!file || ferror(file)) {
         fprintf(stderr, "suspects: %s could not be read\n", name);
         exit(2);
@@ -47,15 +47,11 @@ static uint32_t read_observed(int count, char **words, uint8_t seen[24])
 
 int main(int argc, char **argv)
 {
-    uint8_t book[TOCKBRONZE_SETTLES], table[TOCKBRONZE_TABLE_LENGTH];
+    uint8_t book[TOCKBRONZE_LONGEST_BOOK + 1], table[TOCKBRONZE_TABLE_LENGTH];
     uint8_t seen[24], outputs[24], columns[TOCKBRONZE_MOST_COLUMNS];
 
     if (argc < 2) {
         fprintf(stderr, "usage: suspects BOOK TEST=OUTPUT ..\n");
-        return 2;
-    }
-    if (tockbronze_version() != TOCKBRONZE_VERSION) {
-        fprintf(stderr, "suspects: the archive does not fit the header\n");
         return 2;
     }
     uint64_t result = tockbronze_read(book, read_file(argv[1], book), table, sizeof table);
@@ -71,7 +67,7 @@ int main(int argc, char **argv)
             outputs[observed++] = seen[t];
 
     result = tockbronze_suspects(table, sizeof table, set, outputs, observed, columns, sizeof columns);
-    if (TOCKBRONZE_NUMBER(result) == TOCKBRONZE_UNKNOWN_TEST) {
+    if (TOCKBRONZE_NUMBER(result) == TOCKBRONZE_BAD_SET) {
         fprintf(stderr, "suspects: the book has %u tests, numbered from 0\n", table[0]);
         return 2;
     }

@@ -721,10 +721,6 @@ int main(int argc, char **argv)
     signal(SIGBUS, crashed);
     signal(SIGILL, crashed);
     signal(SIGABRT, crashed);
-    if (tockbronze_version() != TOCKBRONZE_VERSION) {
-        fprintf(stderr, "differential: the archive has another version than the header\n");
-        return 2;
-    }
     count = strtoull(argv[1], NULL, 10);
     seed = strtoull(argv[2], NULL, 10);
     if (argc == 4) {

@@ -6,7 +6,7 @@ ghost use Rattle.adder.specs.Adder.{adderOutput, adder_table, answered, correct_
 use table::Table;
 
 // Test, fault and output, where the output differs from the correct one.
-#[derive(Drop)]
+#[derive(Clone, Copy)]
 pub struct Answer(pub u8, pub u8, pub u8);
 
 const CORRECT: [u8; 8] = [0, 2, 2, 1, 2, 1, 1, 3];

@@ -4,14 +4,14 @@ ghost use Rattle.sets.specs.Sets.{one};
 ghost use Rattle.choice.specs.Search.{FirstUnhit, Node, RestOf, OneMore, NeedsMore, Best, limit_after, or_else};
 
 // A set of tests with its weight, or nothing.
-#[derive(Drop)]
+#[derive(Clone, Copy)]
 pub enum Found {
     Set(u32, u32),
     Nothing,
 }
 
 // Masks that share no test with each other: the tests that they have, and a weight that hitting them all takes.
-#[derive(Drop)]
+#[derive(Clone, Copy)]
 struct Spread {
     taken: u32,
     weight: u32,

@@ -1,5 +1,6 @@
 // Classes of columns that no test separates, and the undetectable faults.
 #![tactic(auto)]
+
 ghost use Rattle.std.specs.Prelude.{◌≡◌};
 ghost use Rattle.classes.specs.Classes.{classes_of};
 ghost use Rattle.classes.specs.Undetectable.{UndetectableIn};

@@ -7,7 +7,7 @@ ghost use Rattle.cover.specs.Kept.{kept};
 use table::{Goal, Table};
 
 // The masks of a goal's pairs that count, in rising order of the pairs, lower column first; zero past the count.
-#[derive(Drop)]
+#[derive(Clone, Copy)]
 pub struct Masks {
     pub count: usize,
     pub list: [u32; 1830],

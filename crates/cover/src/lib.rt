@@ -1,5 +1,6 @@
 // Which tests separate the pairs of a goal; the tests that a goal sets aside, and the essential ones.
 #![tactic(auto)]
+
 ghost use Rattle.std.specs.Prelude.{◌≡◌, ◌≤◌};
 ghost use Rattle.cover.specs.Answer.{kept_set, lone_set, Gives, AsideTest};
 ghost use Rattle.terms.specs.Terms.{Essential};

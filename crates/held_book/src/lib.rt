@@ -8,7 +8,7 @@ ghost use Rattle.held_book.specs.Held.{Keeps};
 use records::{Outcome, SoFar, Stepped};
 use table::{Reading, Verdict};
 
-#[derive(Drop)]
+#[derive(Clone, Copy)]
 pub struct Reader<'a> {
     pub book: &'a [u8],
     pub at: usize,

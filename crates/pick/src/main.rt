@@ -6,7 +6,7 @@ use libc::{STDIN_FILENO, STDOUT_FILENO};
 use table::Written;
 
 // How many bytes were read, or that a read failed.
-#[derive(Drop)]
+#[derive(Clone, Copy)]
 enum Input {
     Bytes(usize),
     Failed,

@@ -1,12 +1,13 @@
 // The records of a fault book: what each kind gives, or why it is refused.
 #![tactic(auto)]
+
 use table::{Refusal, Table};
 
 pub mod inner;
 mod kinds;
 
 // How far the groups of a book have been read; the fault and the test of the last response.
-#[derive(Drop)]
+#[derive(Clone, Copy)]
 pub enum Stage {
     Tests,
     Faults,
@@ -14,14 +15,14 @@ pub enum Stage {
     Ended,
 }
 
-#[derive(Drop)]
+#[derive(Clone, Copy)]
 pub struct SoFar {
     pub table: Table,
     pub stage: Stage,
 }
 
 // A test's correct output; a fault's line and stuck value; a response's test, fault and output; the end's two counts.
-#[derive(Drop)]
+#[derive(Clone, Copy)]
 pub enum Record {
     Test(u8),
     Fault(u8, u8),
@@ -29,7 +30,7 @@ pub enum Record {
     End(u8, u8),
 }
 
-#[derive(Drop)]
+#[derive(Clone, Copy)]
 pub enum Outcome {
     Given(Record),
     Accepted,
@@ -37,7 +38,7 @@ pub enum Outcome {
 }
 
 // What a step gives, the next place or the refusal's, and what has been read then.
-#[derive(Drop)]
+#[derive(Clone, Copy)]
 pub struct Stepped {
     pub outcome: Outcome,
     pub place: usize,

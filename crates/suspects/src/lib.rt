@@ -1,5 +1,6 @@
 // The suspects: the columns whose signature under a set of tests equals the observed outputs.
 #![tactic(auto)]
+
 ghost use Rattle.std.specs.Prelude.{◌≡◌};
 ghost use Rattle.suspects.specs.Suspects.{refused_by, suspects_of};
 

@@ -10,7 +10,7 @@ mod form;
 pub mod inner;
 
 // Column 0 is the healthy card, column f + 1 the card with fault f.
-#[derive(Drop)]
+#[derive(Clone, Copy)]
 pub struct Table {
     pub tests: usize,
     pub faults: usize,
@@ -19,14 +19,14 @@ pub struct Table {
     pub stuck: [u8; 60],
 }
 
-#[derive(Drop)]
+#[derive(Clone, Copy)]
 pub enum Goal {
     Detect,
     Diagnose,
 }
 
 // Why a book or a call is refused; `number` gives each its number.
-#[derive(Drop)]
+#[derive(Clone, Copy)]
 pub enum Refusal {
     UnknownKind,
     BodyCut,
@@ -48,34 +48,34 @@ pub enum Refusal {
     NotOneEach,
 }
 
-#[derive(Drop)]
+#[derive(Clone, Copy)]
 pub enum Verdict {
     Accepted,
     Refused(Refusal),
 }
 
 // A set of tests: bit t for test t.
-#[derive(Drop)]
+#[derive(Clone, Copy)]
 pub enum Chosen {
     Tests(u32),
     Refused(Refusal),
 }
 
 // A set of faults: bit f for fault f.
-#[derive(Drop)]
+#[derive(Clone, Copy)]
 pub enum Faults {
     Set(u64),
     Refused(Refusal),
 }
 
 // How many bytes of a lent buffer were written.
-#[derive(Drop)]
+#[derive(Clone, Copy)]
 pub enum Written {
     Bytes(usize),
     Refused(Refusal),
 }
 
-#[derive(Drop)]
+#[derive(Clone, Copy)]
 pub struct Reading {
     pub verdict: Verdict,
     pub place: usize,
@@ -83,14 +83,14 @@ pub struct Reading {
 }
 
 // The number of classes, and the class number of each column.
-#[derive(Drop)]
+#[derive(Clone, Copy)]
 pub struct Classes {
     pub verdict: Verdict,
     pub count: usize,
     pub of: [u8; 61],
 }
 
-#[derive(Drop)]
+#[derive(Clone, Copy)]
 pub struct Suspects {
     pub verdict: Verdict,
     pub count: usize,

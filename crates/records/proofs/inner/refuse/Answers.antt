@@ -1,0 +1,5 @@
+use borrow.Author.Rules.{rules}
+use Rattle.records.proofs.inner.refuse.Goals as goal
+
+pub returns : goal.returns
+returns c = rw c.begin-sofar.ensures
