@@ -1,8 +1,10 @@
 // Reads a fault book from standard input and prints what it holds.
 #![tactic(auto)]
+
 ghost use Rattle.pick.specs.Input.{Holds};
 
-use libc::{STDIN_FILENO, STDOUT_FILENO};
+use std::io;
+use std::io::Read;
 use table::Written;
 
 // How many bytes were read, or that a read failed.
@@ -13,23 +15,22 @@ enum Input {
 }
 
 // Reads once; no bytes at the end of the input.
-fn read_some(part: &mut [u8]) -> Input
+fn read_some(input: &mut impl Read, part: &mut [u8]) -> Input
     ensures { Holds result part.new }
 {
-    let got = libc::read(STDIN_FILENO, part);
-    if got < 0 {
-        return Input::Failed;
+    match input.read(part) {
+        Ok(n) => Input::Bytes(n),
+        Err(_) => Input::Failed,
     }
-    Input::Bytes(io::count(got, part))
 }
 
 // Reads until the buffer is full or the input ends.
-fn read_all(buf: &mut [u8]) -> Input
+fn read_all(input: &mut impl Read, buf: &mut [u8]) -> Input
     ensures { Holds result buf.new }
 {
     let mut done = 0;
     while done < buf.len() {
-        let Input::Bytes(more) = read_some(&mut buf[done..]) else {
+        let Input::Bytes(more) = read_some(input, &mut buf[done..]) else {
             return Input::Failed;
         };
         if more == 0 {
@@ -41,23 +42,19 @@ fn read_all(buf: &mut [u8]) -> Input
 }
 
 // Prints the text of a book; no text is too long for the page.
-fn print_report(book: &[u8]) {
+fn print_report(rt: &impl Print, book: &[u8]) -> io::Result<()> {
     let mut page = [0u8; 7364];
     match report::report(book, &mut page) {
-        Written::Bytes(n) => {
-            io::write_all(STDOUT_FILENO, &page[..n]);
-        }
-        Written::Refused(_) => {}
+        Written::Bytes(n) => rt.write_all(&page[..n]),
+        Written::Refused(_) => Ok(()),
     }
 }
 
 // The first 5,992 bytes of any input settle the answer.
-fn main() {
+fn main(rt: HostRuntime) -> io::Result<()> {
     let mut book = [0u8; 5992];
-    match read_all(&mut book) {
-        Input::Bytes(n) => print_report(&book[..n]),
-        Input::Failed => {
-            io::write_all(STDOUT_FILENO, b"could not read\n");
-        }
+    match read_all(&mut rt.stdin(), &mut book) {
+        Input::Bytes(n) => print_report(&rt, &book[..n]),
+        Input::Failed => rt.write_all(b"could not read\n"),
     }
 }

@@ -2,6 +2,7 @@
 ghost use Rattle.std.specs.Prelude.{◌≡◌, ◌≤◌, length};
 
 use crate::show;
+use std::io;
 use table::Goal;
 
 // A book of n tests.
@@ -38,38 +39,38 @@ fn faults_book(n: usize) -> [u8; 186]
 }
 
 // The reading of the book's first n bytes.
-fn read_first(book: &[u8], n: usize)
+fn read_first(rt: &impl Print, book: &[u8], n: usize) -> io::Result<()>
     requires { n ≤ length book.now }
 {
-    show::reading(book::read_book(&book[..n]));
+    show::reading(rt, book::read_book(&book[..n]))
 }
 
-pub fn tests(n: usize)
+pub fn tests(rt: &impl Print, n: usize) -> io::Result<()>
     requires { n ≤ 25 }
 {
     let book = tests_book(n);
-    read_first(&book, 2 * n + 3);
+    read_first(rt, &book, 2 * n + 3)
 }
 
-pub fn faults(n: usize)
+pub fn faults(rt: &impl Print, n: usize) -> io::Result<()>
     requires { n ≤ 61 }
 {
     let book = faults_book(n);
-    read_first(&book, 3 * n + 3);
+    read_first(rt, &book, 3 * n + 3)
 }
 
-fn cap(cap: u32) {
+fn cap(rt: &impl Print, cap: u32) -> io::Result<()> {
     let r = book::read_book(b"\x54\x00\x46\x01\x00\x52\x00\x00\x01\x45\x01\x01");
-    io::write_all(1, b"cap");
-    show::number(cap as u64);
-    io::write_all(1, b" :");
+    rt.write_all(b"cap")?;
+    show::number(rt, cap as u64)?;
+    rt.write_all(b" :")?;
     let table = r.table;
-    show::tests(choice::choose(table, Goal::Detect, cap));
+    show::tests(rt, choice::choose(table, Goal::Detect, cap))
 }
 
-pub fn caps() {
-    cap(0);
-    cap(1);
-    cap(24);
-    cap(25);
+pub fn caps(rt: &impl Print) -> io::Result<()> {
+    cap(rt, 0)?;
+    cap(rt, 1)?;
+    cap(rt, 24)?;
+    cap(rt, 25)
 }

@@ -1,103 +1,104 @@
 // What a book gives, in lines.
+use std::io;
 use table::{Chosen, Goal, Reading, Refusal, Table, Verdict};
 
-pub fn number(n: u64) {
-    io::write_all(1, b" ");
-    io::print_decimal(1, n);
+pub fn number(rt: &impl Print, n: u64) -> io::Result<()> {
+    print!(rt; " {n}")
 }
 
-fn byte(b: u8) {
-    number(b as u64);
+fn byte(rt: &impl Print, b: u8) -> io::Result<()> {
+    number(rt, b as u64)
 }
 
-pub fn end() {
-    io::write_all(1, b"\n");
+pub fn end(rt: &impl Print) -> io::Result<()> {
+    rt.write_all(b"\n")
 }
 
 // The tests of a set.
-pub fn set(s: u32) {
+pub fn set(rt: &impl Print, s: u32) -> io::Result<()> {
     let mut t = 0;
     while t < 24 {
         if sets::inner::has(s, t) {
-            number(t as u64);
+            number(rt, t as u64)?;
         }
         t += 1;
     }
     if s == 0 {
-        io::write_all(1, b" none");
+        rt.write_all(b" none")?;
     }
+    Ok(())
 }
 
-pub fn bytes(list: &[u8]) {
+pub fn bytes(rt: &impl Print, list: &[u8]) -> io::Result<()> {
     let mut i = 0;
     while i < list.len() {
-        byte(list[i]);
+        byte(rt, list[i])?;
         i += 1;
     }
+    Ok(())
 }
 
 // The first n numbers of a list.
-pub fn columns(list: [u8; 61], n: usize) {
+pub fn columns(rt: &impl Print, list: [u8; 61], n: usize) -> io::Result<()> {
     let mut i = 0;
     while i < 61 {
         if i < n {
-            byte(list[i]);
+            byte(rt, list[i])?;
         }
         i += 1;
     }
+    Ok(())
 }
 
-pub fn refusal(why: Refusal) {
-    io::write_all(1, b" refused");
-    byte(table::number(why));
+pub fn refusal(rt: &impl Print, why: Refusal) -> io::Result<()> {
+    rt.write_all(b" refused")?;
+    byte(rt, table::number(why))
 }
 
-pub fn tests(answer: Chosen) {
+pub fn tests(rt: &impl Print, answer: Chosen) -> io::Result<()> {
     match answer {
-        Chosen::Tests(s) => set(s),
-        Chosen::Refused(why) => refusal(why),
+        Chosen::Tests(s) => set(rt, s)?,
+        Chosen::Refused(why) => refusal(rt, why)?,
     }
-    end();
+    end(rt)
 }
 
 // The number of classes, the choices, and the set-aside and essential tests for diagnose.
-pub fn card(table: Table) {
-    io::write_all(1, b"classes");
+pub fn card(rt: &impl Print, table: Table) -> io::Result<()> {
+    rt.write_all(b"classes")?;
     let classes = classes::classify(table);
-    number(classes.count as u64);
-    io::write_all(1, b"\ndetect");
-    tests(choice::choose(table, Goal::Detect, 24));
-    io::write_all(1, b"diagnose");
-    tests(choice::choose(table, Goal::Diagnose, 24));
-    io::write_all(1, b"aside");
-    tests(cover::set_aside(table, Goal::Diagnose));
-    io::write_all(1, b"essential");
-    tests(cover::essential(table, Goal::Diagnose));
+    number(rt, classes.count as u64)?;
+    rt.write_all(b"\ndetect")?;
+    tests(rt, choice::choose(table, Goal::Detect, 24))?;
+    rt.write_all(b"diagnose")?;
+    tests(rt, choice::choose(table, Goal::Diagnose, 24))?;
+    rt.write_all(b"aside")?;
+    tests(rt, cover::set_aside(table, Goal::Diagnose))?;
+    rt.write_all(b"essential")?;
+    tests(rt, cover::essential(table, Goal::Diagnose))
 }
 
 // Whether a reading was accepted, and its place.
-pub fn reading(r: Reading) {
-    io::write_all(1, b"book");
+pub fn reading(rt: &impl Print, r: Reading) -> io::Result<()> {
+    rt.write_all(b"book")?;
     let verdict = r.verdict;
     match verdict {
-        Verdict::Accepted => {
-            io::write_all(1, b" accepted");
-        }
-        Verdict::Refused(why) => refusal(why),
+        Verdict::Accepted => rt.write_all(b" accepted")?,
+        Verdict::Refused(why) => refusal(rt, why)?,
     }
-    io::write_all(1, b" at");
-    number(r.place as u64);
-    end();
+    rt.write_all(b" at")?;
+    number(rt, r.place as u64)?;
+    end(rt)
 }
 
 // A book's reading, and its table where it is accepted.
-pub fn book(bytes: &[u8]) {
+pub fn book(rt: &impl Print, bytes: &[u8]) -> io::Result<()> {
     let r = book::read_book(bytes);
-    reading(r);
+    reading(rt, r)?;
     let verdict = r.verdict;
     let table = r.table;
     match verdict {
-        Verdict::Accepted => card(table),
-        Verdict::Refused(_) => {}
+        Verdict::Accepted => card(rt, table),
+        Verdict::Refused(_) => Ok(()),
     }
 }
