@@ -1,4 +1,3 @@
-use borrow.Author.Rules.{rules}
 use Rattle.text.proofs.Writes.{decimals}
 use Rattle.text.proofs.inner.+decimal.Goals as goal
 
