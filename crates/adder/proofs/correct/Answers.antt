@@ -7,8 +7,7 @@ use lib.ListN.{get_or}
 use Rattle.adder.specs.Adder.{adderOutput}
 use Rattle.folds.specs.Fold.{always, joined, listed, single}
 use Rattle.folds.proofs.Gather.{listed-get}
-use Rattle.adder.proofs.correct.Statement.{statement}
-use Rattle.adder.proofs.correct.Tie as tie
+use Rattle.adder.proofs.correct.Goals as goal
 
 outputs : ℕ → ℕ
 outputs t = adderOutput t 0
@@ -17,12 +16,6 @@ right : 0 ∷ 2 ∷ 2 ∷ 1 ∷ 2 ∷ 1 ∷ 1 ∷ 3 ∷ [] ≡ listed outputs 8
 unfolding outputs adderOutput always joined single
 right = refl
 
-array-read-result : tie.Need-array-read-result
-array-read-result c = search rules
-
-returns : tie.Need-returns
+pub returns : goal.returns
 unfolding outputs
 returns c = ap (λ (l : List ℕ). get_or l c.args.t 0) right ∙ listed-get outputs 8 c.args.t c.requires
-
-pub correct-spec : {M : Type 1} → statement M
-correct-spec = tie.close (tie.spec array-read-result returns)
