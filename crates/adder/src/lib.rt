@@ -1,5 +1,6 @@
 // The full adder of document 004, Figure 1: its responses, built in, and its table.
 #![tactic(auto)]
+
 ghost use Rattle.std.specs.Prelude.{◌≡◌, ◌<◌, get_or};
 ghost use Rattle.adder.specs.Adder.{adderOutput, adder_table, answered, correct_output, differing, line_label, nothing, row_filled, rows_filled, same, stuck_label};
 

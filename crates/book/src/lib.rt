@@ -1,5 +1,6 @@
 // The reader of a fault book: a cursor over its records, with what has been read so far by value.
 #![tactic(auto)]
+
 ghost use Rattle.std.specs.Prelude.{◌≡◌};
 ghost use Rattle.records.specs.Step.{start};
 ghost use Rattle.book.specs.Reading.{read_book};

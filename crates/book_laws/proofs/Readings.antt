@@ -17,7 +17,6 @@ use Rattle.records.specs.declared.Stepped.{Stepped}
 use Rattle.book.proofs.Loop.{Reads, begins, accepts-all, refuses-all, onwards}
 use Rattle.records.proofs.Steps.{Steps, refuses, accepts, gives, steps, goes}
 use Rattle.book_laws.proofs.Records.{record_of, given_record}
-use Rattle.records.specs.declared.Outcome.TheVariants as outcome
 
 -- where a book's start has led, the rest of the reading is that of the book
 reads_on : {book : List ℕ} {place : ℕ} {sofar : SoFar} → Reached book place sofar → Reads book place sofar

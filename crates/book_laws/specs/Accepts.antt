@@ -2,7 +2,6 @@
 -- Assumes nothing.
 use Rattle.std.specs.Prelude.{List, ◌≡◌, ℕ, length}
 use Rattle.table.specs.WellFormed.{WellFormed, OfType}
-use Rattle.table.specs.declared.Reading.{Reading}
 use Rattle.table.specs.declared.Table.{Table}
 use Rattle.table.specs.declared.Verdict.TheVariants.{Accepted}
 use Rattle.book.specs.BookOf.{bookOf}

@@ -1,5 +1,6 @@
 // The dictionary: the signature of each class under a set of tests, written to a lent buffer.
 #![tactic(auto)]
+
 ghost use Rattle.std.specs.Prelude.{◌≡◌, ◌≤◌, ◌<◌, length};
 ghost use Rattle.folds.specs.Fold.{count, onto};
 ghost use Rattle.lent.specs.Lent.{set_number, WritesOnto};

@@ -7,7 +7,7 @@ use lib.ListN.{length, length-append}
 use Rattle.table.proofs.Stored.{cell_byte}
 use Rattle.classes.proofs.Meaning.{count-given}
 use Rattle.classes.specs.Classes.{classes_of}
-use Rattle.folds.specs.Fold.{always, count, first}
+use Rattle.folds.specs.Fold.{always, first}
 use Rattle.folds.proofs.Lengths.{length_of, rows_total, total_most}
 use Rattle.items.proofs.Lengths.{members_length, members_most, signature_most, spaced_most, tests_most}
 use Rattle.items.specs.Items.{in_class}

@@ -1,7 +1,7 @@
 -- What the writers of items and lines have done, from what each piece's writer did. Assumes nothing.
 use mathlib.Core.List.{List}
 use mathlib.Core.Path.{◌≡◌}
-use Prim.Native.Nat.{ℕ, ◌+◌, ◌-◌, ◌≤◌, ◌<◌}
+use Prim.Native.Nat.{ℕ, ◌+◌, ◌≤◌, ◌<◌}
 use Rattle.classes.specs.Classes.{classes_of}
 use Rattle.folds.specs.Fold.{count, first}
 use Rattle.items.specs.Items.{in_class, members_text, signature_text, spaced, tests_text}

@@ -7,8 +7,7 @@ use flat::inner::{answers, bytes, marks, tables};
 use table::Verdict;
 
 // The tests that are set aside for the goal.
-#[unsafe(no_mangle)]
-pub extern "C" fn tockbronze_set_aside(table: &[u8], goal: u64) -> u64
+pub fn tockbronze_set_aside(table: &[u8], goal: u64) -> u64
     ensures { AsideCall table.now goal result }
 {
     let given = tables::table_in(table);
@@ -19,8 +18,7 @@ pub extern "C" fn tockbronze_set_aside(table: &[u8], goal: u64) -> u64
 }
 
 // The essential tests for the goal.
-#[unsafe(no_mangle)]
-pub extern "C" fn tockbronze_essential(table: &[u8], goal: u64) -> u64
+pub fn tockbronze_essential(table: &[u8], goal: u64) -> u64
     ensures { EssentialCall table.now goal result }
 {
     let given = tables::table_in(table);
@@ -31,8 +29,7 @@ pub extern "C" fn tockbronze_essential(table: &[u8], goal: u64) -> u64
 }
 
 // The choice for the goal, where it has no more tests than the cap.
-#[unsafe(no_mangle)]
-pub extern "C" fn tockbronze_choose(table: &[u8], goal: u64, cap: u64) -> u64
+pub fn tockbronze_choose(table: &[u8], goal: u64, cap: u64) -> u64
     ensures { ChooseCall table.now goal cap result }
 {
     let given = tables::table_in(table);
@@ -43,8 +40,7 @@ pub extern "C" fn tockbronze_choose(table: &[u8], goal: u64, cap: u64) -> u64
 }
 
 // Writes the dictionary of the table under the set.
-#[unsafe(no_mangle)]
-pub extern "C" fn tockbronze_dictionary(table: &[u8], set: u32, buf: &mut [u8]) -> u64
+pub fn tockbronze_dictionary(table: &[u8], set: u32, buf: &mut [u8]) -> u64
     ensures { DictionaryCall table.now set buf.old result buf.new }
 {
     let given = tables::table_in(table);
@@ -52,8 +48,7 @@ pub extern "C" fn tockbronze_dictionary(table: &[u8], set: u32, buf: &mut [u8]) 
 }
 
 // Writes the witness sheet of the table under the set.
-#[unsafe(no_mangle)]
-pub extern "C" fn tockbronze_witness_sheet(table: &[u8], set: u32, buf: &mut [u8]) -> u64
+pub fn tockbronze_witness_sheet(table: &[u8], set: u32, buf: &mut [u8]) -> u64
     ensures { SheetCall table.now set buf.old result buf.new }
 {
     let given = tables::table_in(table);
@@ -61,16 +56,14 @@ pub extern "C" fn tockbronze_witness_sheet(table: &[u8], set: u32, buf: &mut [u8
 }
 
 // Writes the text of the book.
-#[unsafe(no_mangle)]
-pub extern "C" fn tockbronze_report(book: &[u8], text: &mut [u8]) -> u64
+pub fn tockbronze_report(book: &[u8], text: &mut [u8]) -> u64
     ensures { ReportCall book.now text.old result text.new }
 {
     answers::of_written(report::report(book, text))
 }
 
 // The number of classes, and the class number of each column in use.
-#[unsafe(no_mangle)]
-pub extern "C" fn tockbronze_classes(table: &[u8], of: &mut [u8]) -> u64
+pub fn tockbronze_classes(table: &[u8], of: &mut [u8]) -> u64
     ensures { ClassesCall table.now of.old result of.new }
 {
     let given = tables::table_in(table);
@@ -83,8 +76,7 @@ pub extern "C" fn tockbronze_classes(table: &[u8], of: &mut [u8]) -> u64
 }
 
 // The suspects for the observed outputs.
-#[unsafe(no_mangle)]
-pub extern "C" fn tockbronze_suspects(
+pub fn tockbronze_suspects(
     table: &[u8],
     set: u32,
     outputs: &[u8],
@@ -103,8 +95,7 @@ pub extern "C" fn tockbronze_suspects(
 }
 
 // One byte for each fault: 1 for an undetectable one, 0 for any other.
-#[unsafe(no_mangle)]
-pub extern "C" fn tockbronze_undetectable(table: &[u8], faults: &mut [u8]) -> u64
+pub fn tockbronze_undetectable(table: &[u8], faults: &mut [u8]) -> u64
     ensures { UndetectableCall table.now faults.old result faults.new }
 {
     let given = tables::table_in(table);
@@ -115,8 +106,7 @@ pub extern "C" fn tockbronze_undetectable(table: &[u8], faults: &mut [u8]) -> u6
 }
 
 // Reads the book, and writes the bytes of its table.
-#[unsafe(no_mangle)]
-pub extern "C" fn tockbronze_read(book: &[u8], table: &mut [u8]) -> u64
+pub fn tockbronze_read(book: &[u8], table: &mut [u8]) -> u64
     ensures { ReadCall book.now table.old result table.new }
 {
     let reading = book::read_book(book);

@@ -3,23 +3,25 @@ use crate::input::wide;
 use crate::show::mix;
 use crate::{input, show};
 use records::{Outcome, Record, SoFar, Stage, Stepped};
+use std::io;
 use table::{Reading, Table};
 
-fn reading(reading: Reading) {
+fn reading(rt: &impl Print, reading: Reading) -> io::Result<()> {
     let verdict = reading.verdict;
     let table = reading.table;
-    show::verdict(verdict);
-    show::number(reading.place as u64);
-    show::given(table);
+    show::verdict(rt, verdict)?;
+    show::number(rt, reading.place as u64)?;
+    show::given(rt, table)?;
+    Ok(())
 }
 
 // A whole book, by both readers; gives the table that was read.
-pub fn whole(case: &[u8]) -> Table {
+pub fn whole(rt: &impl Print, case: &[u8]) -> io::Result<Table> {
     let read = book::read_book(case);
-    reading(read);
-    reading(held_book::read_held(case));
+    reading(rt, read)?;
+    reading(rt, held_book::read_held(case))?;
     let table = read.table;
-    table
+    Ok(table)
 }
 
 fn mixed_record(sum: u64, record: Record) -> u64 {
@@ -79,32 +81,33 @@ fn code(outcome: Outcome) -> u64 {
 }
 
 // One record, by both readers; gives what the first says.
-fn step(book: &[u8], place: usize, sofar: SoFar) -> Stepped {
+fn step(rt: &impl Print, book: &[u8], place: usize, sofar: SoFar) -> io::Result<Stepped> {
     let got = book::read_record(book, place, sofar);
     let outcome = got.outcome;
-    show::number(code(outcome));
-    show::number(got.place as u64);
-    show::number(step_sum(got));
-    show::number(step_sum(held_book::step_held(book, place, sofar)));
-    got
+    show::number(rt, code(outcome))?;
+    show::number(rt, got.place as u64)?;
+    show::number(rt, step_sum(got))?;
+    show::number(rt, step_sum(held_book::step_held(book, place, sofar)))?;
+    Ok(got)
 }
 
 // A book record by record from its start.
-pub fn records(case: &[u8]) {
+pub fn records(rt: &impl Print, case: &[u8]) -> io::Result<()> {
     let mut place = 0;
     let mut sofar = book::begin();
     let mut left: u32 = 2000;
     while left > 0 {
-        let got = step(case, place, sofar);
+        let got = step(rt, case, place, sofar)?;
         let outcome = got.outcome;
         if !is_given(outcome) {
-            return;
+            return Ok(());
         }
         let after = got.sofar;
         place = got.place;
         sofar = after;
         left -= 1;
     }
+    Ok(())
 }
 
 fn stage(code: u8, fault: usize, test: usize) -> Stage {
@@ -117,32 +120,38 @@ fn stage(code: u8, fault: usize, test: usize) -> Stage {
 }
 
 // One record after a reading so far: a place, the last fault and test, the stage, the book; its table is the one at hand.
-pub fn record(case: &[u8], table: Table) {
+pub fn record(rt: &impl Print, case: &[u8], table: Table) -> io::Result<()> {
     if case.len() < 25 {
-        return;
+        return Ok(());
     }
     let stage = stage(
         input::byte(case, 24),
         input::number(case, 8),
         input::number(case, 16),
     );
-    step(&case[25..], input::number(case, 0), SoFar { table, stage });
+    step(
+        rt,
+        &case[25..],
+        input::number(case, 0),
+        SoFar { table, stage },
+    )?;
+    Ok(())
 }
 
-fn write_report(book: &[u8], buf: &mut [u8]) {
-    show::written(report::report(book, buf));
-    show::lent(buf);
+fn write_report(rt: &impl Print, book: &[u8], buf: &mut [u8]) -> io::Result<()> {
+    show::written(rt, report::report(book, buf))?;
+    show::lent(rt, buf)
 }
 
 // The lent buffer's length, the byte that fills it, a book.
-pub fn text_of(case: &[u8]) {
+pub fn text_of(rt: &impl Print, case: &[u8]) -> io::Result<()> {
     if case.len() < 3 {
-        return;
+        return Ok(());
     }
     let mut space = input::space(input::byte(case, 2));
-    let n = io::count(
+    let n = input::count(
         input::short(input::byte(case, 0), input::byte(case, 1)),
         &space,
     );
-    write_report(&case[3..], &mut space[..n]);
+    write_report(rt, &case[3..], &mut space[..n])
 }

@@ -1,74 +1,78 @@
 // The calls on a table.
 use crate::{input, show};
+use std::io;
 use table::{Classes, Goal, Suspects, Table};
 
-fn classes_shown(classes: Classes) {
+fn classes_shown(rt: &impl Print, classes: Classes) -> io::Result<()> {
     let verdict = classes.verdict;
     let of = classes.of;
-    show::verdict(verdict);
-    show::number(classes.count as u64);
-    show::number(show::mixed(0, &of));
+    show::verdict(rt, verdict)?;
+    show::number(rt, classes.count as u64)?;
+    show::number(rt, show::mixed(0, &of))
 }
 
-fn suspects_shown(suspects: Suspects) {
+fn suspects_shown(rt: &impl Print, suspects: Suspects) -> io::Result<()> {
     let verdict = suspects.verdict;
     let columns = suspects.columns;
-    show::verdict(verdict);
-    show::number(suspects.count as u64);
-    show::number(show::mixed(0, &columns));
+    show::verdict(rt, verdict)?;
+    show::number(rt, suspects.count as u64)?;
+    show::number(rt, show::mixed(0, &columns))
 }
 
 // The calls that take a table, and a goal at most.
-pub fn questions(table: Table) {
-    show::number(if table::well_formed(table) { 1 } else { 0 });
-    classes_shown(classes::classify(table));
-    show::faults(classes::undetectable(table));
-    show::chosen(cover::set_aside(table, Goal::Detect));
-    show::chosen(cover::set_aside(table, Goal::Diagnose));
-    show::chosen(cover::essential(table, Goal::Detect));
-    show::chosen(cover::essential(table, Goal::Diagnose));
+pub fn questions(rt: &impl Print, table: Table) -> io::Result<()> {
+    show::number(rt, if table::well_formed(table) { 1 } else { 0 })?;
+    classes_shown(rt, classes::classify(table))?;
+    show::faults(rt, classes::undetectable(table))?;
+    show::chosen(rt, cover::set_aside(table, Goal::Detect))?;
+    show::chosen(rt, cover::set_aside(table, Goal::Diagnose))?;
+    show::chosen(rt, cover::essential(table, Goal::Detect))?;
+    show::chosen(rt, cover::essential(table, Goal::Diagnose))
 }
 
 // A goal, a cap.
-pub fn choose(case: &[u8], table: Table) {
+pub fn choose(rt: &impl Print, case: &[u8], table: Table) -> io::Result<()> {
     let goal = input::goal(input::byte(case, 0));
-    show::chosen(choice::choose(table, goal, input::set(case, 1)));
+    show::chosen(rt, choice::choose(table, goal, input::set(case, 1)))
 }
 
-fn write_dictionary(table: Table, set: u32, buf: &mut [u8]) {
-    show::written(dictionary::dictionary(table, set, buf));
-    show::lent(buf);
+fn write_dictionary(rt: &impl Print, table: Table, set: u32, buf: &mut [u8]) -> io::Result<()> {
+    show::written(rt, dictionary::dictionary(table, set, buf))?;
+    show::lent(rt, buf)
 }
 
-fn write_sheet(table: Table, set: u32, buf: &mut [u8]) {
-    show::written(witness::witness_sheet(table, set, buf));
-    show::lent(buf);
-}
-
-// A set, the lent buffer's length, and the byte that fills it.
-pub fn dictionary_of(case: &[u8], table: Table) {
-    let mut space = input::space(input::byte(case, 6));
-    let n = io::count(
-        input::short(input::byte(case, 4), input::byte(case, 5)),
-        &space,
-    );
-    write_dictionary(table, input::set(case, 0), &mut space[..n]);
+fn write_sheet(rt: &impl Print, table: Table, set: u32, buf: &mut [u8]) -> io::Result<()> {
+    show::written(rt, witness::witness_sheet(table, set, buf))?;
+    show::lent(rt, buf)
 }
 
 // A set, the lent buffer's length, and the byte that fills it.
-pub fn sheet_of(case: &[u8], table: Table) {
+pub fn dictionary_of(rt: &impl Print, case: &[u8], table: Table) -> io::Result<()> {
     let mut space = input::space(input::byte(case, 6));
-    let n = io::count(
+    let n = input::count(
         input::short(input::byte(case, 4), input::byte(case, 5)),
         &space,
     );
-    write_sheet(table, input::set(case, 0), &mut space[..n]);
+    write_dictionary(rt, table, input::set(case, 0), &mut space[..n])
+}
+
+// A set, the lent buffer's length, and the byte that fills it.
+pub fn sheet_of(rt: &impl Print, case: &[u8], table: Table) -> io::Result<()> {
+    let mut space = input::space(input::byte(case, 6));
+    let n = input::count(
+        input::short(input::byte(case, 4), input::byte(case, 5)),
+        &space,
+    );
+    write_sheet(rt, table, input::set(case, 0), &mut space[..n])
 }
 
 // A set, the observed outputs.
-pub fn suspects_for(case: &[u8], table: Table) {
+pub fn suspects_for(rt: &impl Print, case: &[u8], table: Table) -> io::Result<()> {
     if case.len() < 4 {
-        return;
+        return Ok(());
     }
-    suspects_shown(suspects::suspects_of(table, input::set(case, 0), &case[4..]));
+    suspects_shown(
+        rt,
+        suspects::suspects_of(table, input::set(case, 0), &case[4..]),
+    )
 }

@@ -1,6 +1,8 @@
 // Numbers and tables from the bytes of a case.
-ghost use Rattle.std.specs.Prelude.{length, ◌≡◌, ◌<◌};
+ghost use Rattle.std.specs.Prelude.{length, ◌≡◌, ◌<◌, ◌≤◌, IfOk};
 
+use std::io;
+use std::io::Read;
 use table::{Goal, Table};
 
 pub fn wide(byte: u8) -> u64
@@ -27,6 +29,28 @@ pub fn byte(case: &[u8], at: usize) -> u8 {
 // Two bytes, the lowest first.
 pub fn short(low: u8, high: u8) -> isize {
     (wide(low) + wide(high) * 256) as isize
+}
+
+// That many bytes, but 0 where it is negative and no more than a buffer has.
+pub fn count(bytes: isize, buf: &[u8]) -> usize
+    ensures { result ≤ length buf.now }
+{
+    usize::try_from(bytes).unwrap_or(0).min(buf.len())
+}
+
+// Reads until the buffer is full or the input ends, and gives how many bytes were read.
+pub fn read_full(file: &mut impl Read, buf: &mut [u8]) -> io::Result<usize>
+    ensures { IfOk result (λ n. n ≤ length buf.new) }
+{
+    let mut done = 0;
+    while done < buf.len() {
+        let more = file.read(&mut buf[done..])?;
+        if more == 0 {
+            break;
+        }
+        done += more;
+    }
+    Ok(done)
 }
 
 // Four bytes, the lowest first.

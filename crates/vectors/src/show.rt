@@ -2,11 +2,11 @@
 ghost use Rattle.std.specs.Prelude.{◌<◌};
 
 use crate::input::wide;
+use std::io;
 use table::{Chosen, Faults, Refusal, Table, Verdict, Written};
 
-pub fn number(n: u64) {
-    io::write_all(1, b" ");
-    io::print_decimal(1, n);
+pub fn number(rt: &impl Print, n: u64) -> io::Result<()> {
+    print!(rt; " {n}")
 }
 
 // The sum with one number more.
@@ -56,50 +56,50 @@ pub fn mixed_table(sum: u64, table: Table) -> u64 {
 }
 
 // Prints a table, and gives it back.
-pub fn given(table: Table) -> Table {
-    number(mixed_table(0, table));
-    table
+pub fn given(rt: &impl Print, table: Table) -> io::Result<Table> {
+    number(rt, mixed_table(0, table))?;
+    Ok(table)
 }
 
-fn refused(why: Refusal) {
-    number(wide(table::number(why)));
-    number(0);
+fn refused(rt: &impl Print, why: Refusal) -> io::Result<()> {
+    number(rt, wide(table::number(why)))?;
+    number(rt, 0)
 }
 
-pub fn verdict(verdict: Verdict) {
+pub fn verdict(rt: &impl Print, verdict: Verdict) -> io::Result<()> {
     match verdict {
-        Verdict::Accepted => number(0),
-        Verdict::Refused(why) => number(wide(table::number(why))),
+        Verdict::Accepted => number(rt, 0),
+        Verdict::Refused(why) => number(rt, wide(table::number(why))),
     }
 }
 
-pub fn chosen(answer: Chosen) {
+pub fn chosen(rt: &impl Print, answer: Chosen) -> io::Result<()> {
     match answer {
         Chosen::Tests(set) => {
-            number(0);
-            number(set as u64);
+            number(rt, 0)?;
+            number(rt, set as u64)
         }
-        Chosen::Refused(why) => refused(why),
+        Chosen::Refused(why) => refused(rt, why),
     }
 }
 
-pub fn faults(answer: Faults) {
+pub fn faults(rt: &impl Print, answer: Faults) -> io::Result<()> {
     match answer {
         Faults::Set(set) => {
-            number(0);
-            number(set);
+            number(rt, 0)?;
+            number(rt, set)
         }
-        Faults::Refused(why) => refused(why),
+        Faults::Refused(why) => refused(rt, why),
     }
 }
 
-pub fn written(answer: Written) {
+pub fn written(rt: &impl Print, answer: Written) -> io::Result<()> {
     match answer {
         Written::Bytes(n) => {
-            number(0);
-            number(n as u64);
+            number(rt, 0)?;
+            number(rt, n as u64)
         }
-        Written::Refused(why) => refused(why),
+        Written::Refused(why) => refused(rt, why),
     }
 }
 
@@ -108,25 +108,26 @@ const DIGITS: [u8; 16] = [
 ];
 
 // Prints a byte as two hexadecimal digits.
-fn hex(byte: u8) {
+fn hex(rt: &impl Print, byte: u8) -> io::Result<()> {
     let n = wide(byte) as usize;
     let high = DIGITS[n / 16 % 16];
     let low = DIGITS[n % 16];
     let pair = [high, low];
-    io::write_all(1, &pair);
+    rt.write_all(&pair)
 }
 
-fn bytes(bytes: &[u8]) {
+fn bytes(rt: &impl Print, bytes: &[u8]) -> io::Result<()> {
     let mut i = 0;
     while i < bytes.len() {
-        hex(bytes[i]);
+        hex(rt, bytes[i])?;
         i += 1;
     }
+    Ok(())
 }
 
 // Prints a lent buffer: its sum, and each of its bytes.
-pub fn lent(buf: &[u8]) {
-    number(mixed(0, buf));
-    io::write_all(1, b" ");
-    bytes(buf);
+pub fn lent(rt: &impl Print, buf: &[u8]) -> io::Result<()> {
+    number(rt, mixed(0, buf))?;
+    rt.write_all(b" ")?;
+    bytes(rt, buf)
 }

@@ -33,9 +33,9 @@ module _ (out : ℕ → ℕ → ℕ) (tests : ℕ) where
   pub low-in : (n lows i : ℕ) (r : Bool) → lows ≡ set_of (lowest out tests) n → i < n → r ≡ has lows i → r ≡ lowest out tests i
   low-in n lows i r e w h = h ∙ rw e (set_tells (lowest out tests) n i w)
 
-  pub above_in : (n lows a i : ℕ) (r : Bool) → lows ≡ set_of (lowest out tests) n → i < n → r ≡ above_in lows a i → r ≡ above out tests a i
+  pub above_in_lem : (n lows a i : ℕ) (r : Bool) → lows ≡ set_of (lowest out tests) n → i < n → r ≡ above_in lows a i → r ≡ above out tests a i
   unfolding above_in above
-  above_in n lows a i r e w h = h ∙ rw (e, set_tells (lowest out tests) n i w)
+  above_in_lem n lows a i r e w h = h ∙ rw (e, set_tells (lowest out tests) n i w)
 
   -- ---- how many classes are above that of column a
 

@@ -1,5 +1,6 @@
 // The witness sheet: for each two classes the lowest test of a set that separates them, written to a lent buffer.
 #![tactic(auto)]
+
 ghost use Rattle.std.specs.Prelude.{◌≡◌};
 ghost use Rattle.lent.specs.Lent.{set_number, WritesOnto};
 ghost use Rattle.witness.specs.Witness.{sheet_of};

@@ -1,4 +1,3 @@
-use borrow.Author.Rules.{rules}
 use Rattle.records.specs.Step.{edgeRule}
 use Rattle.records.proofs.Judged.{judges}
 use Rattle.records.proofs.kinds.at_edge.Goals as goal

@@ -1,4 +1,3 @@
-use borrow.Author.Rules.{rules}
 use Rattle.records.specs.Step.{faultRule}
 use Rattle.records.proofs.Judged.{judges}
 use Rattle.records.proofs.kinds.fault_record.Goals as goal

@@ -1,6 +1,3 @@
-use Prim.Native.Nat.{◌+◌}
-use native.Mathlib.Omega.{arith}
-use borrow.Author.Rules.{rules}
 use Rattle.records.specs.Step.{responseRule}
 use Rattle.records.proofs.Judged.{judges}
 use Rattle.records.proofs.kinds.response_record.Goals as goal
@@ -8,12 +5,6 @@ use Rattle.records.proofs.kinds.response_record.Goals as goal
 pub returns-then-book-place : goal.returns-then-book-place
 unfolding responseRule
 returns-then-book-place c = search judges depth 14
-
-pub overflow_cast-t : goal.overflow_cast-t
-overflow_cast-t c = omega (arith, c.shared_slice_known-4-1.given (c.args.place + 1))
-
-pub overflow_cast-f : goal.overflow_cast-f
-overflow_cast-f c = omega (arith, c.shared_slice_known-4-1.given (c.args.place + 2))
 
 pub returns-then-table-t : goal.returns-then-table-t
 unfolding responseRule

@@ -1,4 +1,3 @@
-use borrow.Author.Rules.{rules}
 use Rattle.records.specs.Step.{testRule}
 use Rattle.records.proofs.Judged.{judges}
 use Rattle.records.proofs.kinds.test_record.Goals as goal

@@ -1,4 +1,3 @@
-use borrow.Author.Rules.{rules}
 use Rattle.text.proofs.Writes.{put_past}
 use Rattle.text.proofs.inner.put.Goals as goal
 

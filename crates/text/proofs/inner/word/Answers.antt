@@ -1,7 +1,4 @@
-use Prim.Native.Nat.{◌≤◌, ◌-◌}
 use borrow.Author.Rules.{rules}
-use lib.ListN.{length, take}
-use Rattle.text.specs.Text.{Writes}
 use Rattle.text.proofs.Writes.{words, writes_nothing}
 use Rattle.text.proofs.inner.word.Goals as goal
 

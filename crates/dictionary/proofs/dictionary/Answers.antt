@@ -1,0 +1,40 @@
+use borrow.Author.Rules.{rules}
+use Rattle.table.proofs.Formed.{admits}
+use Rattle.lent.proofs.Lent.{writes-20, writes-21, writes-24, writes-0}
+use Rattle.dictionary.proofs.Rows.{rows-size, rows_fit, bytes_fit}
+use Rattle.dictionary.proofs.dictionary.Goals as goal
+
+pub returns-then-not-well_formed : goal.returns-then-not-well_formed
+returns-then-not-well_formed c = search writes-20
+
+pub within-requires : goal.within-requires
+within-requires c = search admits
+
+pub returns-then-not-within : goal.returns-then-not-within
+returns-then-not-within c = search writes-21
+
+pub overflow_add-columns : goal.overflow_add-columns
+overflow_add-columns c = search admits
+
+pub size-n-requires : goal.size-n-requires
+size-n-requires c = search admits
+
+pub class_count-requires : goal.class_count-requires
+class_count-requires c = search admits
+
+pub overflow_mul-bytes : goal.overflow_mul-bytes
+overflow_mul-bytes c = search bytes_fit
+
+pub returns-then-buf-bytes : goal.returns-then-buf-bytes
+returns-then-buf-bytes c = search (writes-24, rows-size)
+
+pub write_rows-requires : goal.write_rows-requires
+write_rows-requires c = (
+  search admits,
+  search admits,
+  search rules,
+  rows_fit _ _ _ _ _ _ _ c.class_count.ensures c.size-n.ensures c.if-buf-bytes.false,
+)
+
+pub returns : goal.returns
+returns c = search (writes-0, rows-size)

@@ -1,0 +1,36 @@
+use mathlib.Core.Path.{◌≡◌}
+use mathlib.Core.Logic.{⊎_elim}
+use Prim.Native.Nat.{◌≤◌, ◌-◌}
+use native.Mathlib.Omega.{arith}
+use borrow.Author.Rules.{rules}
+use lib.ListN.{length}
+use Rattle.folds.specs.Fold.{count, gather, onto}
+use Rattle.folds.proofs.Count.{tally, count_start, count_fits}
+use Rattle.folds.proofs.Gather.{gathers, gather-start}
+use Rattle.folds.proofs.Onto.{keeps}
+use Rattle.sets.specs.Sets.{has}
+use Rattle.table.specs.Table.{cell_at}
+use Rattle.terms.specs.Columns.{outputOf}
+use Rattle.dictionary.proofs.write_row.Goals.{then-has, else-has}
+use Rattle.dictionary.proofs.write_row.Goals as goal
+
+pub loop-i-init : goal.loop-i-init
+loop-i-init c = (search rules, count_start _, gather-start _ _ _, search rules)
+
+pub bounds-row-j : goal.bounds-row-j
+bounds-row-j c = search gathers
+
+pub overflow_add-j : goal.overflow_add-j
+overflow_add-j c = omega (arith, count_fits _ _ _ c.loop-i.invariant.1)
+
+pub loop-i-preserved : goal.loop-i-preserved
+unfolding outputOf
+loop-i-preserved c = (
+  search rules,
+  elim c.if-has.branch [ then-has w ↦ search tally | else-has w ↦ search tally ],
+  elim c.if-has.branch [ then-has w ↦ search gathers | else-has w ↦ search gathers ],
+  elim c.if-has.branch [ then-has w ↦ search keeps | else-has w ↦ search keeps ],
+)
+
+pub returns : goal.returns
+returns c = search gathers

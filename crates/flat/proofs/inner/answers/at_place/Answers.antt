@@ -1,0 +1,6 @@
+use borrow.Author.Rules.{rules}
+use Rattle.flat.proofs.Numbers.{place_packed}
+use Rattle.flat.proofs.inner.answers.at_place.Goals as goal
+
+pub returns : goal.returns
+returns c = search place_packed

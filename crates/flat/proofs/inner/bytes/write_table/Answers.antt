@@ -1,0 +1,6 @@
+use borrow.Author.Rules.{rules}
+use Rattle.flat.proofs.Written.{table_written}
+use Rattle.flat.proofs.inner.bytes.write_table.Goals as goal
+
+pub returns : goal.returns
+returns c = search table_written

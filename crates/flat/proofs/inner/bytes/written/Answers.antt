@@ -1,0 +1,9 @@
+use borrow.Author.Rules.{rules}
+use Rattle.flat.proofs.Written.{given-short, given-all}
+use Rattle.flat.proofs.inner.bytes.written.Goals as goal
+
+pub returns-then-buf-lt-LENGTH : goal.returns-then-buf-lt-LENGTH
+returns-then-buf-lt-LENGTH c = search given-short
+
+pub returns : goal.returns
+returns c = search given-all
