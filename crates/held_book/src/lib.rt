@@ -1,5 +1,6 @@
 // A reader that keeps the lent book and its next place; what has been read so far goes in and comes back beside it.
 #![tactic(auto)]
+
 ghost use Rattle.std.specs.Prelude.{◌≡◌};
 ghost use Rattle.book.specs.Reading.{reading_of, read_book};
 ghost use Rattle.book.specs.Sound.{record_at};
