@@ -89,7 +89,7 @@ module _ (w : ℕ → ℕ) (masks : List ℕ) (keep t chosen : ℕ) where
       light = o.light;
     }
 
-    -- test t is not keep: it is out
+    -- test t is not kept: it is out
     pub best-skip : (limit : ℕ) (r : Found) → bit keep t ≡ 0 → Best w masks keep (t + 1) chosen limit r → Best w masks keep t chosen limit r
     best-skip limit (Set s n) k b = (
       open-out-up limit s b.0,
@@ -99,7 +99,7 @@ module _ (w : ℕ → ℕ) (masks : List ℕ) (keep t chosen : ℕ) where
     best-skip limit Nothing k b = λ s' o.
         b s' (open-out-down limit s' (⊎_elim (λ e. e) (λ e. absurd (omega (arith, o.keeps t (omega arith) e))) (bit_cases s' t)) o)
 
-    -- test t is keep: `first` is the best with t in, `later` the best with t out and lighter than `first`
+    -- test t is kept: `first` is the best with t in, `later` the best with t out and lighter than `first`
     best-join : (limit : ℕ) (first later : Found) → bit keep t ≡ 1 → Best w masks keep (t + 1) (chosen + 2 ^ t) limit first
         → Best w masks keep (t + 1) chosen (limit_after first limit) later → Best w masks keep t chosen limit (or_else later first)
     best-join limit (Set s n) (Set r m) k a b = (

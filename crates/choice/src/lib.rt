@@ -1,5 +1,6 @@
 // The first of the smallest sets of tests that reach a goal.
 #![tactic(auto)]
+
 ghost use Rattle.std.specs.Prelude.{◌≡◌, ◌≤◌};
 ghost use Rattle.table.specs.WellFormed.{WellFormed};
 ghost use Rattle.choice.specs.Answer.{Sought, within_cap, ChoiceIs};

@@ -1,0 +1,12 @@
+use borrow.Author.Rules.{rules}
+use Rattle.choice.proofs.Root.{cap-holds, cap-fails, cap-none}
+use Rattle.choice.proofs.within_cap.Goals as goal
+
+pub returns-then-weight-cap : goal.returns-then-weight-cap
+returns-then-weight-cap c = search (rules, cap-holds)
+
+pub returns-else-weight-cap : goal.returns-else-weight-cap
+returns-else-weight-cap c = search (rules, cap-fails)
+
+pub returns-in-Nothing : goal.returns-in-Nothing
+returns-in-Nothing c = search (rules, cap-none)
