@@ -1,5 +1,6 @@
 // The text that pick prints.
 #![tactic(auto)]
+
 ghost use Rattle.std.specs.Prelude.{◌≡◌};
 ghost use Rattle.report.specs.Answer.{IsTableText, IsText, Paged, ReportIs};
 ghost use Rattle.table.specs.Answers.{chosen_set};

@@ -1,0 +1,11 @@
+use Rattle.report.proofs.Page.{page-accepted, page-formed, page-refused}
+use Rattle.report.proofs.page_of.Goals as goal
+
+pub table_page-requires : goal.table_page-requires
+table_page-requires c = search page-formed
+
+pub returns-in-Accepted : goal.returns-in-Accepted
+returns-in-Accepted c = search page-accepted
+
+pub returns-in-Refused : goal.returns-in-Refused
+returns-in-Refused c = search page-refused
