@@ -1,6 +1,5 @@
 -- "Its book has 193 bytes." Assumes nothing.
 use mathlib.Core.Path.{◌≡◌, refl}
-use Prim.Native.Nat.{ℕ}
 use lib.ListN.{length}
 use Rattle.adder.specs.Adder.{adder_output, adder_table, line_label, no_labels, row_filled, rows_filled, stuck_label}
 use Rattle.book.specs.BookOf.{answers_wrong, book_of, fault_bytes, response_bytes, responses_of, test_bytes}

@@ -1,6 +1,6 @@
 -- The full adder by its gates. The sentences are document 01's.
 -- Assumes nothing.
-use Rattle.std.specs.Prelude.{Bool, not, List, [], ◌∷◌, ◌++◌, ℕ, zero, suc, ◌+◌, ◌-◌, ◌*◌, ◌/◌, ◌%◌, eqb, ltb, get_or, set, replicate}
+use Rattle.std.specs.Prelude.{List, [], ◌∷◌, ◌++◌, ℕ, zero, suc, ◌+◌, ◌-◌, ◌*◌, ◌/◌, ◌%◌, eqb, ltb, get_or, set, replicate}
 use Rattle.adder.specs.declared.Answer.{Answer}
 use Rattle.folds.specs.Fold.{pick, listed, onto}
 use Rattle.table.specs.Table.{place_of}

@@ -7,7 +7,7 @@ use borrow.Author.Tests.{eqb-true, leb-true, ltb-true}
 use lib.Dec.{eqb, leb, ltb}
 use Rattle.folds.specs.Fold.{both}
 use Rattle.folds.proofs.Bools.{both_left, both_right}
-use Rattle.sets.specs.Sets.{within, size}
+use Rattle.sets.specs.Sets.{size}
 use Rattle.table.specs.Test.{well_formed}
 use Rattle.table.proofs.Formed.{formed}
 use Rattle.table.specs.Answers.{number_of}

@@ -1,6 +1,6 @@
 -- The test of a table, clause by clause, as the code makes it. `Tested` says that it is exactly `WellFormed`.
 -- Assumes nothing.
-use Rattle.std.specs.Prelude.{Bool, true, not, List, ◌≡◌, ℕ, eqb, leb, ltb, get_or}
+use Rattle.std.specs.Prelude.{Bool, not, List, ◌≡◌, ℕ, eqb, leb, ltb, get_or}
 use Rattle.folds.specs.Fold.{pick, both, either, every, Tells}
 use Rattle.table.specs.declared.Table.{Table}
 use Rattle.table.specs.Table.{cell_at}

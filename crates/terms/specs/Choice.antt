@@ -1,6 +1,6 @@
 -- The choice: it speaks of all subsets and runs no search. The sentences are document 01's.
 -- Assumes nothing.
-use Rattle.std.specs.Prelude.{◌≡◌, ℕ}
+use Rattle.std.specs.Prelude.{ℕ}
 use Rattle.sets.specs.Sets.{Within, Precedes, one}
 use Rattle.table.specs.declared.Goal.{Goal}
 use Rattle.table.specs.declared.Table.{Table}

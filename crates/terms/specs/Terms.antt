@@ -1,6 +1,6 @@
 -- The paper's terms, over a table's outputs. The sentences are document 01's.
 -- Assumes nothing.
-use Rattle.std.specs.Prelude.{List, ◌⊎◌, ◌≡◌, ℕ, ◌+◌, ◌≤◌, ◌<◌}
+use Rattle.std.specs.Prelude.{List, ◌⊎◌, ◌≡◌, ℕ, ◌+◌, ◌<◌}
 use Rattle.folds.specs.Fold.{count}
 use Rattle.sets.specs.Sets.{bit}
 use Rattle.table.specs.Table.{output_at, columns}

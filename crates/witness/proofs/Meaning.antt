@@ -11,7 +11,7 @@ use borrow.Author.Tests.{lt-ltb, eq-eqb, ne_eqb, not-true}
 use lib.Dec.{ltb}
 use lib.ListN.{length, get_or, drop}
 use lib.Seq.{get_or-drop, get_or-take}
-use Rattle.folds.specs.Fold.{pick, count, first}
+use Rattle.folds.specs.Fold.{pick, count}
 use Rattle.folds.proofs.Below.{lt_or_ge, eq_or_ne}
 use Rattle.folds.proofs.Bools.{both_true, both_left, both_right, clash}
 use Rattle.folds.proofs.Count.{count_yes, count_mono, count_less}

@@ -1,8 +1,6 @@
 use mathlib.Core.Path.{◌≡◌}
 use Prim.Native.Nat.{◌≤◌, ◌-◌}
-use borrow.Author.Rules.{rules}
 use Rattle.adder.specs.Adder.{correct_output, rows_filled}
-use Rattle.adder.proofs.Fill.{rows_start, correct_row, rows_end}
 use Rattle.adder.proofs.correct_cells.Given as goal
 
 abbrev pub invariant-loop-t : goal.invariant-loop-t

@@ -1,8 +1,7 @@
-use mathlib.Core.Path.{◌≡◌, refl}
-use Prim.Native.Nat.{◌≤◌, ◌-◌}
+use mathlib.Core.Path.{refl}
 use native.Mathlib.Omega.{arith}
 use borrow.Author.Rules.{rules}
-use Rattle.adder.specs.Adder.{row_filled, same}
+use Rattle.adder.specs.Adder.{same}
 use Rattle.adder.proofs.Fill.{row_start, row_store, row_end}
 use Rattle.table.proofs.Cells.{place_below}
 use Rattle.adder.proofs.row.Goals as goal

@@ -1,10 +1,6 @@
-use mathlib.Core.Path.{◌≡◌, refl}
+use mathlib.Core.Path.{◌≡◌}
 use Prim.Native.Nat.{◌≤◌, ◌-◌}
-use native.Mathlib.Omega.{arith}
-use borrow.Author.Rules.{rules}
 use Rattle.adder.specs.Adder.{row_filled, same}
-use Rattle.adder.proofs.Fill.{row_start, row_store, row_end}
-use Rattle.table.proofs.Cells.{place_below}
 use Rattle.adder.proofs.row.Given as goal
 
 abbrev pub invariant-loop-c : goal.invariant-loop-c

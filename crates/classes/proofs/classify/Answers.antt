@@ -1,4 +1,3 @@
-use borrow.Author.Rules.{rules}
 use Rattle.table.proofs.Formed.{admits}
 use Rattle.classes.specs.Classes.{unnumbered}
 use Rattle.classes.proofs.Calls.{classify_20, classify_0}

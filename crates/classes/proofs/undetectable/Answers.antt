@@ -1,4 +1,3 @@
-use borrow.Author.Rules.{rules}
 use Rattle.table.proofs.Formed.{admits}
 use Rattle.classes.proofs.Calls.{undetectable_20, undetectable_0, few_faults}
 use Rattle.classes.proofs.undetectable.Goals as goal

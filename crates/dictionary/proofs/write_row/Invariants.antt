@@ -1,13 +1,7 @@
 use mathlib.Core.Path.{◌≡◌}
-use mathlib.Core.Logic.{⊎_elim}
 use Prim.Native.Nat.{◌≤◌, ◌-◌}
-use native.Mathlib.Omega.{arith}
-use borrow.Author.Rules.{rules}
 use lib.ListN.{length}
 use Rattle.folds.specs.Fold.{count, gather, onto}
-use Rattle.folds.proofs.Count.{tally, count_start, count_fits}
-use Rattle.folds.proofs.Gather.{gathers, gather_start}
-use Rattle.folds.proofs.Onto.{keeps}
 use Rattle.sets.specs.Sets.{has}
 use Rattle.table.specs.Table.{cell_at}
 use Rattle.terms.specs.Columns.{output_of}

@@ -1,4 +1,3 @@
-use borrow.Author.Rules.{rules}
 use Rattle.table.proofs.Formed.{admits}
 use Rattle.suspects.proofs.Calls.{suspects_20, suspects_21, suspects_25, suspects_0}
 use Rattle.suspects.proofs.suspects_of.Goals as goal

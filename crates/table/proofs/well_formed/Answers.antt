@@ -2,7 +2,6 @@ use mathlib.Core.Bool.{Bool, true, false, not}
 use mathlib.Core.Path.{◌≡◌}
 use Prim.Native.Nat.{◌≤◌, ◌<◌}
 use borrow.Author.Tests.{le-leb, lt-leb, not-true, not-false}
-use borrow.Author.Rules.{rules}
 use Rattle.folds.specs.Fold.{every}
 use Rattle.table.specs.declared.Table.{Table}
 use Rattle.table.specs.Test.{label_right, row_right, well_formed}

@@ -1,4 +1,3 @@
-use borrow.Author.Rules.{rules}
 use Rattle.tockbronze.specs.Calls.{GivesChoice}
 use Rattle.tockbronze.proofs.Goals.{no_goal, for_goal, cap_same}
 use Rattle.tockbronze.proofs.tockbronze_choose.Goals as goal

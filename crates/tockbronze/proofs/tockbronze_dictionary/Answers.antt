@@ -1,4 +1,3 @@
-use borrow.Author.Rules.{rules}
 use Rattle.tockbronze.proofs.Buffers.{table_counts, dictionary_small}
 use Rattle.dictionary.specs.Dictionary.{dictionary_of}
 use Rattle.tockbronze.proofs.tockbronze_dictionary.Goals as goal

@@ -1,4 +1,3 @@
-use borrow.Author.Rules.{rules}
 use Rattle.tockbronze.proofs.Buffers.{report_small, report_call}
 use Rattle.tockbronze.proofs.tockbronze_report.Goals as goal
 

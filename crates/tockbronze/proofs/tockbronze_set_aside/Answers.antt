@@ -1,4 +1,3 @@
-use borrow.Author.Rules.{rules}
 use Rattle.tockbronze.specs.Calls.{GivesAside}
 use Rattle.tockbronze.proofs.Goals.{no_goal, for_goal}
 use Rattle.tockbronze.proofs.tockbronze_set_aside.Goals as goal

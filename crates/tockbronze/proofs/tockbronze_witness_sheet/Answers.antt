@@ -1,4 +1,3 @@
-use borrow.Author.Rules.{rules}
 use Rattle.tockbronze.proofs.Buffers.{table_counts, sheet_small}
 use Rattle.witness.specs.Witness.{sheet_of}
 use Rattle.tockbronze.proofs.tockbronze_witness_sheet.Goals as goal

@@ -1,12 +1,7 @@
-use mathlib.Core.Path.{◌≡◌}
-use mathlib.Core.Logic.{⊎_elim}
-use Prim.Native.Nat.{◌<◌, ◌≤◌, ◌-◌}
+use Prim.Native.Nat.{◌<◌}
 use native.Mathlib.Omega.{arith}
 use borrow.Author.Rules.{rules}
 use Rattle.sets.proofs.Collect.{set_fits, set_up, collects}
-use Rattle.table.specs.Table.{cell_at}
-use Rattle.classes.specs.Undetectable.{undetected}
-use Rattle.sets.specs.Collect.{set_of}
 use Rattle.classes.proofs.columns.undetected_set.Goals.{then-undetected, else-undetected}
 use Rattle.classes.proofs.columns.undetected_set.Goals as goal
 

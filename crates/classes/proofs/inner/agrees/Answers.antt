@@ -1,4 +1,3 @@
-use borrow.Author.Rules.{rules}
 use Rattle.terms.specs.Columns.{agrees}
 use Rattle.classes.proofs.inner.agrees.Goals as goal
 

@@ -1,11 +1,9 @@
 use mathlib.Core.Path.{◌≡◌}
 use mathlib.Core.Bool.{true}
 use Prim.Native.Nat.{◌≤◌, ◌-◌}
-use borrow.Author.Rules.{rules}
-use Rattle.terms.specs.Columns.{agrees, alike}
+use Rattle.terms.specs.Columns.{agrees}
 use Rattle.table.specs.Table.{cell_at}
 use Rattle.folds.specs.Fold.{every}
-use Rattle.folds.proofs.Every.{scan}
 use Rattle.classes.proofs.inner.alike.Given as goal
 
 abbrev pub invariant-loop-i : goal.invariant-loop-i

@@ -1,6 +1,5 @@
 use mathlib.Core.Bool.{not}
 use mathlib.Core.Path.{ap}
-use borrow.Author.Rules.{rules}
 use Rattle.terms.specs.Columns.{apart}
 use Rattle.classes.proofs.inner.apart.Goals as goal
 

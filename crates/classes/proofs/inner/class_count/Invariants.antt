@@ -1,12 +1,8 @@
 use mathlib.Core.Path.{◌≡◌}
-use mathlib.Core.Logic.{⊎_elim}
 use Prim.Native.Nat.{◌≤◌, ◌-◌}
-use native.Mathlib.Omega.{arith}
-use borrow.Author.Rules.{rules}
 use Rattle.table.specs.Table.{cell_at}
 use Rattle.terms.specs.Columns.{lowest}
 use Rattle.folds.specs.Fold.{count}
-use Rattle.folds.proofs.Count.{tally, count_fits, count_start}
 use Rattle.classes.proofs.inner.class_count.Given as goal
 
 abbrev pub invariant-loop-i : goal.invariant-loop-i

@@ -1,4 +1,3 @@
-use borrow.Author.Rules.{rules}
 use Rattle.sets.proofs.Bits.{has_shift}
 use Rattle.classes.proofs.inner.holds.Goals as goal
 

@@ -1,10 +1,5 @@
-use mathlib.Core.Path.{◌≡◌}
-use mathlib.Core.Bool.{true}
-use Prim.Native.Nat.{◌≤◌, ◌-◌}
 use borrow.Author.Rules.{rules}
-use Rattle.terms.specs.Columns.{apart, lowest}
-use Rattle.table.specs.Table.{cell_at}
-use Rattle.folds.specs.Fold.{every}
+use Rattle.terms.specs.Columns.{lowest}
 use Rattle.folds.proofs.Every.{scan}
 use Rattle.classes.proofs.inner.lowest.Goals as goal
 

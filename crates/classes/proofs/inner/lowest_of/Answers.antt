@@ -1,10 +1,6 @@
-use mathlib.Core.Path.{◌≡◌}
-use Prim.Native.Nat.{◌≤◌, ◌-◌}
 use borrow.Author.Rules.{rules}
-use Rattle.folds.specs.Fold.{first}
 use Rattle.folds.proofs.First.{seek}
-use Rattle.table.specs.Table.{cell_at}
-use Rattle.terms.specs.Columns.{alike, lowest_of}
+use Rattle.terms.specs.Columns.{lowest_of}
 use Rattle.classes.proofs.inner.lowest_of.Goals as goal
 
 pub loop-i-init : goal.loop-i-init

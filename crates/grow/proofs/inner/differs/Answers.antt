@@ -1,5 +1,4 @@
 use borrow.Author.Tests.{eq-eqb, ne_eqb}
-use borrow.Author.Rules.{rules}
 use Rattle.grow.specs.Grow.{differs}
 use Rattle.grow.proofs.inner.differs.Goals as goal
 

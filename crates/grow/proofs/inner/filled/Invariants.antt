@@ -1,10 +1,6 @@
 use mathlib.Core.Path.{◌≡◌}
 use Prim.Native.Nat.{◌≤◌, ◌-◌}
-use native.Mathlib.Numerals.{add-one}
-use native.Mathlib.Omega.{arith}
-use borrow.Author.Rules.{rules}
 use Rattle.grow.specs.Grow.{filled}
-use Rattle.table.proofs.Cells.{place_below}
 use Rattle.grow.proofs.inner.filled.Given as goal
 
 abbrev pub invariant-loop-t : goal.invariant-loop-t

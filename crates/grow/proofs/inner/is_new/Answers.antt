@@ -1,10 +1,5 @@
-use mathlib.Core.Path.{◌≡◌}
-use mathlib.Core.Bool.{true}
-use Prim.Native.Nat.{◌≤◌, ◌-◌}
 use borrow.Author.Rules.{rules}
-use Rattle.folds.specs.Fold.{every}
 use Rattle.folds.proofs.Every.{scan}
-use Rattle.grow.specs.Grow.{differs}
 use Rattle.grow.proofs.inner.is_new.Goals as goal
 
 pub loop-f-init : goal.loop-f-init

@@ -1,9 +1,7 @@
 use mathlib.Core.Path.{◌≡◌}
 use mathlib.Core.Bool.{true}
 use Prim.Native.Nat.{◌≤◌, ◌-◌}
-use borrow.Author.Rules.{rules}
 use Rattle.folds.specs.Fold.{every}
-use Rattle.folds.proofs.Every.{scan}
 use Rattle.grow.specs.Grow.{differs}
 use Rattle.grow.proofs.inner.is_new.Given as goal
 

@@ -1,4 +1,3 @@
-use borrow.Author.Rules.{rules}
 use Rattle.grow.proofs.inner.with_fault.Goals as goal
 
 pub returns : goal.returns

@@ -1,10 +1,6 @@
 use mathlib.Core.Path.{◌≡◌}
-use mathlib.Core.Logic.{⊎_elim}
 use Prim.Native.Nat.{◌≤◌, ◌-◌}
-use native.Mathlib.Omega.{arith}
-use borrow.Author.Rules.{rules}
 use Rattle.folds.specs.Fold.{count}
-use Rattle.folds.proofs.Count.{tally, count_fits, count_start}
 use Rattle.sets.specs.Sets.{has}
 use Rattle.sets.proofs.inner.size.Given as goal
 

@@ -1,4 +1,3 @@
-use borrow.Author.Rules.{rules}
 use Rattle.sets.proofs.Bits.{within_shift}
 use Rattle.sets.proofs.inner.within.Goals as goal
 

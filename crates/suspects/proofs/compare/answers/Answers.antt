@@ -1,4 +1,3 @@
-use borrow.Author.Rules.{rules}
 use Rattle.suspects.proofs.Answers.{output_there, answer_other, answer_held}
 use Rattle.suspects.proofs.compare.answers.Goals as goal
 

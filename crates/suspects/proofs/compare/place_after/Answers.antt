@@ -1,5 +1,4 @@
 use native.Mathlib.Omega.{arith}
-use borrow.Author.Rules.{rules}
 use Rattle.folds.proofs.Count.{count_fits}
 use Rattle.suspects.proofs.Answers.{place_stays, place_moves}
 use Rattle.suspects.proofs.compare.place_after.Goals as goal

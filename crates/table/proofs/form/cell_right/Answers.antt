@@ -1,5 +1,4 @@
 use borrow.Author.Tests.{le-leb, lt-leb, lt-ltb, le-ltb}
-use borrow.Author.Rules.{rules}
 use Rattle.table.specs.Test.{cell_right}
 use Rattle.table.proofs.form.cell_right.Goals as goal
 

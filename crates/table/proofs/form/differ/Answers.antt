@@ -1,5 +1,4 @@
 use borrow.Author.Tests.{eq-eqb, ne_eqb}
-use borrow.Author.Rules.{rules}
 use Rattle.table.specs.Test.{differ}
 use Rattle.table.proofs.form.differ.Goals as goal
 

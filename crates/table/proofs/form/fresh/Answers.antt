@@ -1,9 +1,5 @@
-use mathlib.Core.Path.{◌≡◌}
-use mathlib.Core.Bool.{true}
-use Prim.Native.Nat.{◌≤◌, ◌-◌}
 use borrow.Author.Rules.{rules}
-use Rattle.table.specs.Test.{differ, fresh}
-use Rattle.folds.specs.Fold.{every}
+use Rattle.table.specs.Test.{fresh}
 use Rattle.folds.proofs.Every.{scan}
 use Rattle.table.proofs.form.fresh.Goals as goal
 

@@ -1,5 +1,4 @@
 use borrow.Author.Tests.{le-leb, lt-leb, lt-ltb, le-ltb, eq-eqb, ne_eqb}
-use borrow.Author.Rules.{rules}
 use Rattle.table.specs.Test.{label_right}
 use Rattle.table.proofs.form.label_right.Goals as goal
 

@@ -1,10 +1,8 @@
 use mathlib.Core.Path.{◌≡◌}
 use mathlib.Core.Bool.{true}
 use Prim.Native.Nat.{◌≤◌, ◌-◌}
-use borrow.Author.Rules.{rules}
 use Rattle.table.specs.Test.{label_right}
 use Rattle.folds.specs.Fold.{every}
-use Rattle.folds.proofs.Every.{scan}
 use Rattle.table.proofs.form.labels_right.Given as goal
 
 abbrev pub invariant-loop-i : goal.invariant-loop-i

@@ -1,9 +1,5 @@
-use mathlib.Core.Path.{◌≡◌}
-use mathlib.Core.Bool.{true}
-use Prim.Native.Nat.{◌≤◌, ◌-◌}
 use borrow.Author.Rules.{rules}
-use Rattle.table.specs.Test.{cell_right, row_right}
-use Rattle.folds.specs.Fold.{every}
+use Rattle.table.specs.Test.{row_right}
 use Rattle.folds.proofs.Every.{scan}
 use Rattle.table.proofs.form.row_right.Goals as goal
 

@@ -1,9 +1,4 @@
-use mathlib.Core.Path.{◌≡◌}
-use mathlib.Core.Bool.{true}
-use Prim.Native.Nat.{◌≤◌, ◌-◌}
 use borrow.Author.Rules.{rules}
-use Rattle.table.specs.Test.{row_right}
-use Rattle.folds.specs.Fold.{every}
 use Rattle.folds.proofs.Every.{scan}
 use Rattle.table.proofs.form.rows_right.Goals as goal
 

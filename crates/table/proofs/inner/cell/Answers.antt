@@ -1,5 +1,4 @@
 use native.Mathlib.Omega.{arith}
-use borrow.Author.Rules.{rules}
 use Rattle.table.specs.Table.{cell_at}
 use Rattle.table.proofs.Cells.{place_fits}
 use Rattle.table.proofs.inner.cell.Goals as goal

@@ -1,5 +1,4 @@
 use borrow.Author.Tests.{lt-ltb, le-ltb}
-use borrow.Author.Rules.{rules}
 use Rattle.witness.specs.Witness.{above_in}
 use Rattle.witness.proofs.sheet.above.Goals as goal
 

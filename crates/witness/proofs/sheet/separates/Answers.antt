@@ -1,5 +1,3 @@
-use borrow.Author.Tests.{not-true, not-false}
-use borrow.Author.Rules.{rules}
 use Rattle.terms.specs.Columns.{agrees}
 use Rattle.witness.specs.Witness.{separates}
 use Rattle.witness.proofs.sheet.separates.Goals as goal

@@ -1,4 +1,3 @@
-use borrow.Author.Rules.{rules}
 use Rattle.flat.proofs.Numbers.{place_packed}
 use Rattle.flat.proofs.inner.answers.at_place.Goals as goal
 

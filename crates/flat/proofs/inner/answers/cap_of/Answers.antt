@@ -1,4 +1,3 @@
-use borrow.Author.Rules.{rules}
 use Rattle.flat.proofs.Numbers.{cap_high, cap_low}
 use Rattle.flat.proofs.inner.answers.cap_of.Goals as goal
 

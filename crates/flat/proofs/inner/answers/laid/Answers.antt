@@ -1,4 +1,3 @@
-use borrow.Author.Rules.{rules}
 use Rattle.flat.proofs.Laid.{part_size, laid_short, laid_all}
 use Rattle.flat.proofs.inner.answers.laid.Goals as goal
 

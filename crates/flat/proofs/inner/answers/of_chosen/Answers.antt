@@ -1,4 +1,3 @@
-use borrow.Author.Rules.{rules}
 use Rattle.flat.proofs.Numbers.{tests_packed, refusal_packed}
 use Rattle.flat.proofs.inner.answers.of_chosen.Goals as goal
 

@@ -1,4 +1,3 @@
-use borrow.Author.Rules.{rules}
 use native.Mathlib.Omega.{arith}
 use Rattle.flat.proofs.Numbers.{count_below, count_packed, unwritten_packed}
 use Rattle.flat.proofs.inner.answers.of_written.Goals as goal

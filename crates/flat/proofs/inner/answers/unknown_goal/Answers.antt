@@ -1,4 +1,3 @@
-use borrow.Author.Rules.{rules}
 use Rattle.flat.proofs.Numbers.{unknown_99, unknown_20}
 use Rattle.flat.proofs.inner.answers.unknown_goal.Goals as goal
 

@@ -1,10 +1,7 @@
 use Prim.Native.Nat.{◌≤◌, ◌-◌}
-use borrow.Author.Rules.{rules}
 use Rattle.folds.specs.Fold.{listed}
 use Rattle.text.specs.Text.{Writes}
-use Rattle.text.proofs.Writes.{writes_length}
 use Rattle.flat.specs.Flat.{label_of}
-use Rattle.flat.proofs.Written.{list_start, list_each, list_end, label_at}
 use Rattle.flat.proofs.inner.bytes.write_labels.Given as goal
 
 abbrev pub invariant-loop-f : goal.invariant-loop-f

@@ -1,4 +1,3 @@
-use borrow.Author.Rules.{rules}
 use Rattle.flat.proofs.Written.{table_written}
 use Rattle.flat.proofs.inner.bytes.write_table.Goals as goal
 

@@ -1,4 +1,3 @@
-use borrow.Author.Rules.{rules}
 use Rattle.flat.proofs.Written.{given_short, given_all}
 use Rattle.flat.proofs.inner.bytes.written.Goals as goal
 

@@ -1,8 +1,4 @@
-use mathlib.Core.Path.{◌≡◌}
-use Prim.Native.Nat.{◌≤◌, ◌-◌}
 use borrow.Author.Rules.{rules}
-use Rattle.folds.specs.Fold.{total}
-use Rattle.sets.specs.Sets.{bit}
 use Rattle.flat.proofs.Marked.{sum_start, sum_fits, sum_more, sum_end}
 use Rattle.flat.proofs.inner.marks.how_many.Goals as goal
 

@@ -1,9 +1,7 @@
 use mathlib.Core.Path.{◌≡◌}
 use Prim.Native.Nat.{◌≤◌, ◌-◌}
-use borrow.Author.Rules.{rules}
 use Rattle.folds.specs.Fold.{total}
 use Rattle.sets.specs.Sets.{bit}
-use Rattle.flat.proofs.Marked.{sum_start, sum_fits, sum_more, sum_end}
 use Rattle.flat.proofs.inner.marks.how_many.Given as goal
 
 abbrev pub invariant-loop-f : goal.invariant-loop-f

@@ -1,5 +1,4 @@
 use mathlib.Core.Path.{refl}
-use borrow.Author.Rules.{rules}
 use Rattle.sets.specs.Sets.{bit}
 use Rattle.flat.proofs.inner.marks.mark.Goals as goal
 

@@ -1,4 +1,3 @@
-use borrow.Author.Rules.{rules}
 use Rattle.flat.proofs.Marked.{sum_above, marked_short, marked_all}
 use Rattle.flat.proofs.inner.marks.marked.Goals as goal
 

@@ -1,4 +1,3 @@
-use borrow.Author.Rules.{rules}
 use Rattle.flat.specs.Flat.{no_table}
 use Rattle.flat.proofs.Given.{lent_none, lent_table_lem}
 use Rattle.flat.proofs.inner.tables.table_in.Goals as goal

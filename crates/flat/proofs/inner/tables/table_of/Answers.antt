@@ -1,4 +1,3 @@
-use borrow.Author.Rules.{rules}
 use Rattle.flat.proofs.Given.{table_right}
 use Rattle.flat.proofs.inner.tables.table_of.Goals as goal
 
