@@ -12,6 +12,8 @@ import sys
 
 WORD = re.compile(r"[^\W\d][\w'\-]*|.", re.S)
 DECLARED = re.compile(r"^(?:(?:abbrev|unfoldable|pub)\s+)*(?:(record|data|ruleset)\s+)?([^\s:=(){},]+)\s*(.*)$")
+# in a module's block or below `where`
+INNER = re.compile(r"^ +(?:(?:abbrev|unfoldable|pub)\s+)*(?:(record|data|ruleset)\s+)?([^\s:=(){},]+)\s*((?::|=).*)$")
 FIELD = re.compile(r"^ +(?:pub )?((?:[^\s:(){}]+ )+):")
 # where the rule would give a name that stands already, or a word of std that the same file reads
 APART = {
@@ -22,7 +24,17 @@ APART = {
     "bit-xor": "bit-bit_xor",
     "cell-at": "cell_at_place",
     "fault-correct": "fault_correct_lem",
+    "chosen-set": "chosen_set_lem",
+    "each-reaching": "each_reaching_lem",
+    "fault-bytes": "fault_bytes_lem",
+    "isAside": "is_aside_test",
     "kept-set": "kept_set_lem",
+    "lent-table": "lent_table_lem",
+    "lowest-of": "lowest_of_lem",
+    "outdone-by": "outdone_by_lem",
+    "pair-mask": "pair_mask_lem",
+    "test-bytes": "test_bytes_lem",
+    "witness-place": "witness_place_lem",
     "oneMore": "one_more_of",
     "small-books": "small_books_lem",
     "well-formed": "well_formed_lem",
@@ -44,21 +56,20 @@ def read(path):
 
 def declared(text):
     """The names that a file declares, without those that answer a goal of the check's."""
-    inside = False
+    fields = False
     for line in text.splitlines():
-        if not line or line.startswith(("--", "use ", "mod ", "pub mod ", "unfolding")):
+        if not line or line.lstrip().startswith(("--", "use ", "mod ", "pub mod ", "unfolding", "module ")):
             continue
-        if not line[0].isspace():
-            head = DECLARED.match(line)
-            if not head:
-                continue
+        head = DECLARED.match(line) if not line[0].isspace() else INNER.match(line)
+        if head:
             kind, name, rest = head.groups()
-            inside = kind in ("record", "data")
             if rest.startswith((": tie.", ": goal.")) or "statement M" in rest:
                 continue
             if kind or rest.startswith(":"):
+                fields = kind in ("record", "data")
                 yield name
-        elif inside and (m := FIELD.match(line)):
+                continue
+        if fields and line[0].isspace() and (m := FIELD.match(line)):
             yield from m.group(1).split()
 
 
@@ -69,7 +80,7 @@ def snake(name):
 
 
 def mapping(root):
-    names = {n for p in files(root, ".antt") for n in declared(read(p))}
+    names = {n for p in files(root, ".antt") for n in declared(read(p))} - set(APART.values())
     out = {n: APART.get(n, snake(n)) for n in names}
     out = {n: s for n, s in out.items() if n != s}
     for n, s in sorted(out.items()):

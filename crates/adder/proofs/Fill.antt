@@ -12,22 +12,22 @@ use lib.ListN.{get_or, length, replicate, set}
 use Rattle.folds.specs.Fold.{both, every, always, listed, onto}
 use Rattle.folds.proofs.Bools.{both_left, both_right}
 use Rattle.folds.proofs.Every.{every_at}
-use Rattle.folds.proofs.Gather.{gather-end, listed_start, listed-store}
+use Rattle.folds.proofs.Gather.{gather_end, listed_start, listed_store}
 use Rattle.table.specs.Table.{place_of}
-use Rattle.adder.specs.Adder.{adderOutput, adder_table, answered, answers_below, answers_of, correct_output, differing, line_label, no_labels, nothing, row_filled, rows_filled, same, stuck_label}
+use Rattle.adder.specs.Adder.{adder_output, adder_table, answered, answers_below, answers_of, correct_output, differing, line_label, no_labels, nothing, row_filled, rows_filled, same, stuck_label}
 use Rattle.adder.specs.declared.Answer.{Answer}
 
 module _ (f : ℕ → ℕ → ℕ) (t : ℕ) (cells : List ℕ) where
-  pub row-start : cells ≡ row_filled f t 0 cells
+  pub row_start : cells ≡ row_filled f t 0 cells
   unfolding row_filled
-  row-start = refl
+  row_start = refl
 
-  pub row-store : (c at v : ℕ) (s : List ℕ) → s ≡ row_filled f t c cells → at ≡ place_of t c → v ≡ f t c → set s at v ≡ row_filled f t (c + 1) cells
+  pub row_store : (c at v : ℕ) (s : List ℕ) → s ≡ row_filled f t c cells → at ≡ place_of t c → v ≡ f t c → set s at v ≡ row_filled f t (c + 1) cells
   unfolding row_filled
-  row-store c at v s e ea ev = rw (add-one, e, ea, ev)
+  row_store c at v s e ea ev = rw (add-one, e, ea, ev)
 
-  pub row-end : (c n : ℕ) (s : List ℕ) → c ≤ n → n ≤ c → s ≡ row_filled f t c cells → s ≡ row_filled f t n cells
-  row-end c n s h k e = e ∙ ap (λ (m : ℕ). row_filled f t m cells) (le_antisymm h k)
+  pub row_end : (c n : ℕ) (s : List ℕ) → c ≤ n → n ≤ c → s ≡ row_filled f t c cells → s ≡ row_filled f t n cells
+  row_end c n s h k e = e ∙ ap (λ (m : ℕ). row_filled f t m cells) (le_antisymm h k)
 
 -- ---- the rows of correct outputs
 
@@ -36,7 +36,7 @@ unfolding rows_filled
 rows_start f = refl
 
 -- the output in every column is the correct output in each
-pub correct_row : (t output : ℕ) (cells s : List ℕ) → output ≡ adderOutput t 0 → cells ≡ rows_filled correct_output t → s ≡ row_filled (same output) t 11 cells → s ≡ rows_filled correct_output (t + 1)
+pub correct_row : (t output : ℕ) (cells s : List ℕ) → output ≡ adder_output t 0 → cells ≡ rows_filled correct_output t → s ≡ row_filled (same output) t 11 cells → s ≡ rows_filled correct_output (t + 1)
 unfolding rows_filled row_filled same correct_output
 correct_row t output cells s e ec es = es ∙ rw (add-one, e, ec)
 
@@ -61,21 +61,21 @@ small : ℕ → Bool
 small i = both (ltb (get_or differing i nothing).0 8) (ltb (get_or differing i nothing).1 10)
 
 all_small : every small 36 ≡ true
-unfolding every small differing answers_below answers_of adderOutput nothing
+unfolding every small differing answers_below answers_of adder_output nothing
 all_small = refl
 
 module _ (i : ℕ) (a : Answer) (e : a ≡ get_or differing i nothing) (l : i < 36) where
-  pub answer-test : a.0 < 8
+  pub answer_test : a.0 < 8
   unfolding small
-  answer-test = rw e (ltb-true _ _ (both_left _ _ (every_at small 36 i all_small l)))
+  answer_test = rw e (ltb-true _ _ (both_left _ _ (every_at small 36 i all_small l)))
 
-  pub answer-fault : a.1 < 10
+  pub answer_fault : a.1 < 10
   unfolding small
-  answer-fault = rw e (ltb-true _ _ (both_right (ltb (get_or differing i nothing).0 8) _ (every_at small 36 i all_small l)))
+  answer_fault = rw e (ltb-true _ _ (both_right (ltb (get_or differing i nothing).0 8) _ (every_at small 36 i all_small l)))
 
 -- the 36 answers over the correct outputs give every cell of the gates: computed over the whole table
-pub gates_right : answered 36 ≡ rows_filled adderOutput 8
-unfolding answered rows_filled row_filled correct_output differing answers_below answers_of adderOutput nothing place_of
+pub gates_right : answered 36 ≡ rows_filled adder_output 8
+unfolding answered rows_filled row_filled correct_output differing answers_below answers_of adder_output nothing place_of
 gates_right = refl
 
 -- ---- the labels
@@ -85,14 +85,14 @@ unfolding no_labels
 labels_long = refl
 
 module _ (g : ℕ → ℕ) where
-  pub labels-start : replicate 60 0 ≡ onto (listed g 0) no_labels
+  pub labels_start : replicate 60 0 ≡ onto (listed g 0) no_labels
   unfolding no_labels
-  labels-start = listed_start g (replicate 60 0)
+  labels_start = listed_start g (replicate 60 0)
 
-  pub labels-store : (f v : ℕ) (s : List ℕ) → s ≡ onto (listed g f) no_labels → f < 10 → v ≡ g f → set s f v ≡ onto (listed g (f + 1)) no_labels
-  labels-store f v s e l ev = rw e (listed-store g f no_labels v (omega (arith, labels_long)) ev)
+  pub labels_store : (f v : ℕ) (s : List ℕ) → s ≡ onto (listed g f) no_labels → f < 10 → v ≡ g f → set s f v ≡ onto (listed g (f + 1)) no_labels
+  labels_store f v s e l ev = rw e (listed_store g f no_labels v (omega (arith, labels_long)) ev)
 
 pub table_right : (cells lines stuck : List ℕ) (f : ℕ) → cells ≡ answered 36 → f ≤ 10 → 10 ≤ f → lines ≡ onto (listed line_label f) no_labels → stuck ≡ onto (listed stuck_label f) no_labels
     → record { tests = 8; faults = 10; cells = cells; lines = lines; stuck = stuck } ≡ adder_table
 unfolding adder_table
-table_right cells lines stuck f ec h k el es = rw (ec, gates_right, gather-end always line_label 10 f no_labels lines el h k, gather-end always stuck_label 10 f no_labels stuck es h k)
+table_right cells lines stuck f ec h k el es = rw (ec, gates_right, gather_end always line_label 10 f no_labels lines el h k, gather_end always stuck_label 10 f no_labels stuck es h k)

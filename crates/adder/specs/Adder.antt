@@ -49,8 +49,8 @@ module _ (t c : ℕ) where
   line5 = held c 5 (or line2 line4)
 
   -- "Output is 2 × sum + carry out."
-  unfoldable pub adderOutput : ℕ
-  adderOutput = 2 * line3 + line5
+  unfoldable pub adder_output : ℕ
+  adder_output = 2 * line3 + line5
 
 -- ---- the table
 
@@ -78,7 +78,7 @@ unfoldable pub adder_table : Table
 adder_table = record {
   tests = 8;
   faults = 10;
-  cells = rows_filled adderOutput 8;
+  cells = rows_filled adder_output 8;
   lines = onto (listed line_label 10) no_labels;
   stuck = onto (listed stuck_label 10) no_labels;
 }
@@ -87,8 +87,8 @@ adder_table = record {
 
 abbrev answer_at : ℕ → ℕ → List Answer
 answer_at f t =
-    pick (eqb (adderOutput t (f + 1)) (adderOutput t 0)) []
-    (record { 0 = t; 1 = f; 2 = adderOutput t (f + 1) } ∷ [])
+    pick (eqb (adder_output t (f + 1)) (adder_output t 0)) []
+    (record { 0 = t; 1 = f; 2 = adder_output t (f + 1) } ∷ [])
 
 unfoldable pub answers_of : ℕ → ℕ → List Answer
 answers_of f zero = []
@@ -112,7 +112,7 @@ same output t c = output
 
 -- the correct output in every column
 unfoldable pub correct_output : ℕ → ℕ → ℕ
-correct_output t c = adderOutput t 0
+correct_output t c = adder_output t 0
 
 abbrev pub answer_over : Answer → List ℕ → List ℕ
 answer_over a cells = set cells (place_of a.0 (a.1 + 1)) a.2

@@ -2,7 +2,7 @@
 #![tactic(auto)]
 
 ghost use Rattle.std.specs.Prelude.{◌≡◌, ◌<◌, get_or};
-ghost use Rattle.adder.specs.Adder.{adderOutput, adder_table, answered, correct_output, differing, line_label, nothing, row_filled, rows_filled, same, stuck_label};
+ghost use Rattle.adder.specs.Adder.{adder_output, adder_table, answered, correct_output, differing, line_label, nothing, row_filled, rows_filled, same, stuck_label};
 
 use table::Table;
 
@@ -54,7 +54,7 @@ const ANSWERS: [Answer; 36] = [
 
 fn correct(t: usize) -> u8
     requires { t < 8 }
-    ensures { result ≡ adderOutput t 0 }
+    ensures { result ≡ adder_output t 0 }
 {
     CORRECT[t]
 }

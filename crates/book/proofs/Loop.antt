@@ -10,7 +10,7 @@ use Rattle.records.specs.declared.Outcome.TheVariants.{Given, Accepted, Refused}
 use Rattle.records.specs.declared.Record.{Record}
 use Rattle.records.specs.declared.SoFar.{SoFar}
 use Rattle.records.specs.declared.Stepped.{Stepped}
-use Rattle.records.specs.Step.{start, CountsFit, stepAt}
+use Rattle.records.specs.Step.{start, CountsFit, step_at}
 use Rattle.book.specs.Reading.{reading_of, after, read_from, read_book}
 use Rattle.records.proofs.Steps.{steps, Goes, goes}
 use Rattle.table.specs.declared.Verdict.TheVariants as verdict
@@ -29,23 +29,23 @@ pub begins : (book : List ℕ) (sofar : SoFar) → sofar ≡ start → Reads boo
 unfolding read_book
 begins book sofar e = rw e (record { fuel = length book; enough = omega arith; counts = start_counts; same = refl })
 
-module _ (book : List ℕ) (place : ℕ) (sofar : SoFar) (s : Stepped) (r : Reads book place sofar) (e : s ≡ stepAt book place sofar) where
+module _ (book : List ℕ) (place : ℕ) (sofar : SoFar) (s : Stepped) (r : Reads book place sofar) (e : s ≡ step_at book place sofar) where
   -- what the step says, and what follows it
   turn : after s.outcome s (read_from r.fuel book s.place s.sofar) ≡ read_book book
   turn = rw e r.same
 
-  pub accepts-all : s.outcome ≡ Accepted → reading_of verdict.Accepted s ≡ read_book book
-  accepts-all o = rw o at turn
+  pub accepts_all : s.outcome ≡ Accepted → reading_of verdict.Accepted s ≡ read_book book
+  accepts_all o = rw o at turn
 
-  pub refuses-all : (why : Refusal) → s.outcome ≡ Refused why → reading_of (verdict.Refused why) s ≡ read_book book
-  refuses-all why o = rw o at turn
+  pub refuses_all : (why : Refusal) → s.outcome ≡ Refused why → reading_of (verdict.Refused why) s ≡ read_book book
+  refuses_all why o = rw o at turn
 
   module _ (x : Record) (o : s.outcome ≡ Given x) where
     goes_on : Goes book place s
     goes_on = rw e (goes r.counts (steps book place sofar) x (rw e at o))
 
-    pub less-left : length book - s.place < length book - place
-    less-left = let g = goes_on in omega (arith, g.further, g.inside)
+    pub less_left : length book - s.place < length book - place
+    less_left = let g = goes_on in omega (arith, g.further, g.inside)
 
     pub onwards : Reads book s.place s.sofar
     onwards = go r.fuel r.enough (rw o at turn)
@@ -57,4 +57,4 @@ module _ (book : List ℕ) (place : ℕ) (sofar : SoFar) (s : Stepped) (r : Read
         go zero h q = absurd (omega (arith, g.further, g.inside))
         go (suc n) h q = record { fuel = n; enough = omega (arith, g.further); counts = g.counts; same = q }
 
-pub ruleset reading = (begins, accepts-all, refuses-all, less-left, onwards)
+pub ruleset reading = (begins, accepts_all, refuses_all, less_left, onwards)

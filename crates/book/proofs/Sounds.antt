@@ -16,41 +16,41 @@ use Rattle.records.specs.Step.{CountsFit}
 use Rattle.book.specs.Sound.{order_of, correct_from, stage_fits, sound_test}
 
 module _ (stage : Stage) (tb : Table) where
-  pub tests-only : stage ≡ Tests → eqb tb.faults 0 ≡ stage_fits stage tb
-  tests-only h = rw h
+  pub tests_only : stage ≡ Tests → eqb tb.faults 0 ≡ stage_fits stage tb
+  tests_only h = rw h
 
   module _ (h : stage ≡ Faults) where
-    pub faults-none : tb.faults ≡ 0 → false ≡ stage_fits stage tb
-    faults-none e = rw (h, eq-eqb _ _ e)
+    pub faults_none : tb.faults ≡ 0 → false ≡ stage_fits stage tb
+    faults_none e = rw (h, eq-eqb _ _ e)
 
-    pub faults-rest : (tb.faults ≡ 0 → ⊥) → (r : Bool) → r ≡ correct_from tb.cells tb.tests tb.faults 0 → r ≡ stage_fits stage tb
-    faults-rest n r e = rw (h, ne_eqb _ _ n) e
+    pub faults_rest : (tb.faults ≡ 0 → ⊥) → (r : Bool) → r ≡ correct_from tb.cells tb.tests tb.faults 0 → r ≡ stage_fits stage tb
+    faults_rest n r e = rw (h, ne_eqb _ _ n) e
 
   module _ (f t : ℕ) (h : stage ≡ Responses f t) where
-    pub response-test : tb.tests ≤ t → false ≡ stage_fits stage tb
-    response-test l = rw (h, le-ltb _ _ l)
+    pub response_test : tb.tests ≤ t → false ≡ stage_fits stage tb
+    response_test l = rw (h, le-ltb _ _ l)
 
     module _ (k : t < tb.tests) where
-      pub response-fault : tb.faults ≤ f → false ≡ stage_fits stage tb
-      response-fault l = rw (h, lt-ltb _ _ k, le-ltb _ _ l)
+      pub response_fault : tb.faults ≤ f → false ≡ stage_fits stage tb
+      response_fault l = rw (h, lt-ltb _ _ k, le-ltb _ _ l)
 
       module _ (l : f < tb.faults) (a b : ℕ) (p : a ≡ output_at tb t 0) (q : b ≡ output_at tb t (f + 1)) where
-        pub response-same : a ≡ b → false ≡ stage_fits stage tb
-        response-same e = rw (h, lt-ltb _ _ k, lt-ltb _ _ l, ← p, ← q, eq-eqb _ _ e)
+        pub response_same : a ≡ b → false ≡ stage_fits stage tb
+        response_same e = rw (h, lt-ltb _ _ k, lt-ltb _ _ l, ← p, ← q, eq-eqb _ _ e)
 
-        pub response-rest : (a ≡ b → ⊥) → (r : Bool) → r ≡ correct_from tb.cells tb.tests tb.faults (order_of f t + 1) → r ≡ stage_fits stage tb
-        response-rest n r e = rw (h, lt-ltb _ _ k, lt-ltb _ _ l, ← p, ← q, ne_eqb _ _ n) e
+        pub response_rest : (a ≡ b → ⊥) → (r : Bool) → r ≡ correct_from tb.cells tb.tests tb.faults (order_of f t + 1) → r ≡ stage_fits stage tb
+        response_rest n r e = rw (h, lt-ltb _ _ k, lt-ltb _ _ l, ← p, ← q, ne_eqb _ _ n) e
 
-pub ruleset stages = (tests-only, faults-none, faults-rest, response-test, response-fault, response-same, response-rest)
+pub ruleset stages = (tests_only, faults_none, faults_rest, response_test, response_fault, response_same, response_rest)
 
 module _ (sofar : SoFar) (r : Bool) (w : Tested sofar.table r) where
-  pub ill-formed : not r ≡ true → false ≡ sound_test sofar
+  pub ill_formed : not r ≡ true → false ≡ sound_test sofar
   unfolding sound_test
-  ill-formed n = rw (rejected sofar.table r w n)
+  ill_formed n = rw (rejected sofar.table r w n)
 
-  pub by-stage : not r ≡ false → (r₂ : Bool) → r₂ ≡ stage_fits sofar.stage sofar.table → r₂ ≡ sound_test sofar
+  pub by_stage : not r ≡ false → (r₂ : Bool) → r₂ ≡ stage_fits sofar.stage sofar.table → r₂ ≡ sound_test sofar
   unfolding sound_test
-  by-stage n r₂ e = rw (accepted sofar.table r w n) e
+  by_stage n r₂ e = rw (accepted sofar.table r w n) e
 
 -- what passes has counts within the sizes
 pub sound_counts : (sofar : SoFar) (r : Bool) → r ≡ sound_test sofar → not r ≡ false → CountsFit sofar

@@ -4,7 +4,7 @@ use Rattle.std.specs.Prelude.{List, ◌≡◌, ℕ, ◌<◌, get_or}
 use Rattle.records.specs.declared.Outcome.TheVariants.{Given}
 use Rattle.records.specs.declared.Record.{Record}
 use Rattle.records.specs.declared.SoFar.{SoFar}
-use Rattle.records.specs.Step.{start, stepAt}
+use Rattle.records.specs.Step.{start, step_at}
 
 -- each is a byte
 abbrev pub Bytes : List ℕ → Type 0
@@ -13,8 +13,8 @@ Bytes book = (i : ℕ) → get_or book i 0 < 256
 -- the place after some records of the book, and what has been read then
 pub data Reached (book : List ℕ) : ℕ → SoFar → Type 0 where
   begun : Reached book 0 start
-  read : {place : ℕ} {sofar : SoFar} → Reached book place sofar → (r : Record) → (stepAt book place sofar).outcome ≡ Given r
-      → Reached book (stepAt book place sofar).place (stepAt book place sofar).sofar
+  read : {place : ℕ} {sofar : SoFar} → Reached book place sofar → (r : Record) → (step_at book place sofar).outcome ≡ Given r
+      → Reached book (step_at book place sofar).place (step_at book place sofar).sofar
 
 -- some start of a book gives the reading so far
 abbrev pub SomeStart : SoFar → Type 0

@@ -10,7 +10,7 @@ use Rattle.records.specs.declared.Outcome.{Outcome}
 use Rattle.records.specs.declared.Outcome.TheVariants as outcome
 use Rattle.records.specs.declared.SoFar.{SoFar}
 use Rattle.records.specs.declared.Stepped.{Stepped}
-use Rattle.records.specs.Step.{start, stepAt}
+use Rattle.records.specs.Step.{start, step_at}
 
 abbrev pub reading_of : Verdict → Stepped → Reading
 reading_of verdict s = record { verdict = verdict; place = s.place; table = s.sofar.table }
@@ -25,7 +25,7 @@ after (outcome.Refused why) s rest = reading_of (Refused why) s
 abbrev pub read_from : ℕ → List ℕ → ℕ → SoFar → Reading
 read_from zero book place sofar = record { verdict = Refused NoEnd; place = place; table = empty_table }
 read_from (suc n) book place sofar =
-    let s = stepAt book place sofar in
+    let s = step_at book place sofar in
     after s.outcome s (read_from n book s.place s.sofar)
 
 -- a record has a byte at least, so that there are at most as many as bytes, and one step more

@@ -10,7 +10,7 @@ use Rattle.records.specs.declared.SoFar.{SoFar}
 use Rattle.records.specs.declared.Stage.{Stage}
 use Rattle.records.specs.declared.Stage.TheVariants.{Tests, Faults, Responses, Ended}
 use Rattle.records.specs.declared.Stepped.{Stepped}
-use Rattle.records.specs.Step.{Rule, check, rule, judged, ruleAt}
+use Rattle.records.specs.Step.{Rule, check, rule, judged, rule_at}
 
 -- where the response of fault f to test t stands among all
 abbrev pub order_of : ℕ → ℕ → ℕ
@@ -45,8 +45,8 @@ unfoldable pub call_rule : List ℕ → ℕ → SoFar → Rule
 call_rule book place sofar = rule
     (check NotWellFormed (not (sound_test sofar))
     ∷ check NotWellFormed (ltb (length book) place)
-    ∷ (ruleAt book place sofar).checks)
-    (ruleAt book place sofar).gives
+    ∷ (rule_at book place sofar).checks)
+    (rule_at book place sofar).gives
 
 unfoldable pub record_at : List ℕ → ℕ → SoFar → Stepped
 record_at book place sofar = judged (call_rule book place sofar) place

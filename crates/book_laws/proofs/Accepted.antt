@@ -10,10 +10,10 @@ use Rattle.table.specs.WellFormed.{WellFormed, OfType}
 use Rattle.table.specs.declared.Reading.{Reading}
 use Rattle.table.specs.declared.Table.{Table}
 use Rattle.table.specs.declared.Verdict.TheVariants.{Accepted}
-use Rattle.book.specs.BookOf.{bookOf}
+use Rattle.book.specs.BookOf.{book_of}
 use Rattle.book.specs.Given.{Bytes, Reached}
 use Rattle.book.specs.Reading.{read_book}
-use Rattle.records.specs.Step.{record_bytes, rank_of, accepted_at, first_of, edgeRule, ruleAt, stepAt}
+use Rattle.records.specs.Step.{record_bytes, rank_of, accepted_at, first_of, edge_rule, rule_at, step_at}
 use Rattle.records.specs.declared.Record.TheVariants.{End}
 use Rattle.records.specs.declared.Stage.{Stage}
 use Rattle.records.specs.declared.Stage.TheVariants.{Ended}
@@ -21,7 +21,7 @@ use Rattle.book_laws.specs.Accepts.{Accepts}
 use Rattle.book_laws.proofs.Along.{so, Along, go_on, end_step}
 use Rattle.book_laws.proofs.Good.{ended, reached_good}
 use Rattle.book_laws.proofs.Grown.{Long}
-use Rattle.book_laws.proofs.Readings.{Ends, refused, accepted, ends, accepted-reading}
+use Rattle.book_laws.proofs.Readings.{Ends, refused, accepted, ends, accepted_reading}
 use Rattle.book_laws.proofs.Round.{run}
 
 -- ---- an accepted book is its table's
@@ -29,7 +29,7 @@ use Rattle.book_laws.proofs.Round.{run}
 pub record Gave (book : List ℕ) (tb : Table) : Type 0 where
   pub formed : WellFormed tb
   pub typed : Bytes book → OfType tb
-  pub is_book : book ≡ bookOf tb
+  pub is_book : book ≡ book_of tb
 
 pub accepted_gave : (book : List ℕ) (tb : Table) → Accepts book tb → Gave book tb
 accepted_gave book tb h = go (ends book) h
@@ -60,8 +60,8 @@ accepts_whole book h = go (ends book) h
 
 -- ---- the book of a well-formed table is accepted
 
-accepts_edge : (book : List ℕ) (place : ℕ) (tb : Table) → length book ≡ place → stepAt book place (so tb Ended) ≡ accepted_at place (so tb Ended)
-unfolding stepAt ruleAt edgeRule first_of
+accepts_edge : (book : List ℕ) (place : ℕ) (tb : Table) → length book ≡ place → step_at book place (so tb Ended) ≡ accepted_at place (so tb Ended)
+unfolding step_at rule_at edge_rule first_of
 accepts_edge book place tb e = rw (le-leb (length book) place (omega arith), le-ltb place (length book) (omega arith))
 
 module _ (tb : Table) (w : WellFormed tb) (o : Long tb) where
@@ -69,22 +69,22 @@ module _ (tb : Table) (w : WellFormed tb) (o : Long tb) where
   Whole s u = (u ≡ tb) × (s ≡ Ended)
 
   -- past the end record
-  pub past_end : Along (bookOf tb) [] Whole
+  pub past_end : Along (book_of tb) [] Whole
   past_end = over (run tb w o)
     where
-      over : Along (bookOf tb) (record_bytes (End tb.tests tb.faults) ++ []) (λ s u. (u ≡ tb) × (rank_of s ≤ 2)) → Along (bookOf tb) [] Whole
+      over : Along (book_of tb) (record_bytes (End tb.tests tb.faults) ++ []) (λ s u. (u ≡ tb) × (rank_of s ≤ 2)) → Along (book_of tb) [] Whole
       over a =
           go_on Whole (End tb.tests tb.faults) a tb Ended
-          (let e = a.holds.0 in rw e (end_step (bookOf tb) a.place tb a.stage [] a.left a.holds.1))
+          (let e = a.holds.0 in rw e (end_step (book_of tb) a.place tb a.stage [] a.left a.holds.1))
           (refl, refl)
 
-  pub book-accepted : Accepts (bookOf tb) tb
-  book-accepted = over past_end
+  pub book_accepted : Accepts (book_of tb) tb
+  book_accepted = over past_end
     where
-      over : Along (bookOf tb) [] Whole → Accepts (bookOf tb) tb
+      over : Along (book_of tb) [] Whole → Accepts (book_of tb) tb
       over a =
-          let n = length-drop a.place (bookOf tb) in
+          let n = length-drop a.place (book_of tb) in
           let m = ap length a.left in
-          let p : length (bookOf tb) ≡ a.place = omega (arith, n, m, (reached_good a.reached).inside) in
-          let x : Reached (bookOf tb) a.place (so tb Ended) = rw (a.holds.0, a.holds.1) at a.reached in
-          accepted-reading x (accepts_edge (bookOf tb) a.place tb p) ∙ rw p refl
+          let p : length (book_of tb) ≡ a.place = omega (arith, n, m, (reached_good a.reached).inside) in
+          let x : Reached (book_of tb) a.place (so tb Ended) = rw (a.holds.0, a.holds.1) at a.reached in
+          accepted_reading x (accepts_edge (book_of tb) a.place tb p) ∙ rw p refl

@@ -7,12 +7,12 @@ use Rattle.table.specs.WellFormed.{WellFormed, OfType}
 use Rattle.table.specs.declared.Reading.{Reading}
 use Rattle.table.specs.declared.Table.{Table}
 use Rattle.table.specs.declared.Verdict.TheVariants.{Accepted}
-use Rattle.book.specs.BookOf.{bookOf}
+use Rattle.book.specs.BookOf.{book_of}
 use Rattle.book.specs.Given.{Bytes}
 use Rattle.book.specs.Reading.{read_book}
 use Rattle.book_laws.specs.Accepts.{Accepts, BookOfTable}
-use Rattle.book_laws.proofs.Accepted.{accepted_gave, accepts_whole, book-accepted}
-use Rattle.book_laws.proofs.Bytes.{book-bytes}
+use Rattle.book_laws.proofs.Accepted.{accepted_gave, accepts_whole, book_accepted}
+use Rattle.book_laws.proofs.Bytes.{book_bytes}
 use Rattle.book_laws.proofs.Good.{book_most}
 use Rattle.book_laws.proofs.Grown.{long_of}
 
@@ -24,20 +24,20 @@ accepts_book book tb b h =
 
 -- and such a book is accepted, with that table
 pub book_accepts : (book : List ℕ) (tb : Table) → BookOfTable book tb → Accepts book tb
-book_accepts book tb h = rw h.is (book-accepted tb h.formed (long_of h.typed))
+book_accepts book tb h = rw h.is (book_accepted tb h.formed (long_of h.typed))
 
 -- a verdict of acceptance comes with the book's own table and length
 pub accepted_book : (book : List ℕ) → Bytes book → (read_book book).verdict ≡ Accepted → BookOfTable book (read_book book).table
 accepted_book book b h = accepts_book book _ b (accepts_whole book h)
 
 -- every well-formed table has one, and it is made of bytes
-pub some_book : (tb : Table) → OfType tb → WellFormed tb → Bytes (bookOf tb) × Accepts (bookOf tb) tb
-some_book tb o w = (book-bytes tb w o, book-accepted tb w (long_of o))
+pub some_book : (tb : Table) → OfType tb → WellFormed tb → Bytes (book_of tb) × Accepts (book_of tb) tb
+some_book tb o w = (book_bytes tb w o, book_accepted tb w (long_of o))
 
 -- two tables with the same book are equal
-pub one_table : (a b : Table) → OfType a → WellFormed a → OfType b → WellFormed b → bookOf a ≡ bookOf b → a ≡ b
+pub one_table : (a b : Table) → OfType a → WellFormed a → OfType b → WellFormed b → book_of a ≡ book_of b → a ≡ b
 one_table a b oa wa ob wb e =
-    ap (λ (r : Reading). r.table) (sym (book-accepted a wa (long_of oa)) ∙ ap read_book e ∙ book-accepted b wb (long_of ob))
+    ap (λ (r : Reading). r.table) (sym (book_accepted a wa (long_of oa)) ∙ ap read_book e ∙ book_accepted b wb (long_of ob))
 
 -- "The longest book has 5,991 bytes": no accepted book is longer
 pub accepted_most : (book : List ℕ) → (read_book book).verdict ≡ Accepted → length book ≤ 5991

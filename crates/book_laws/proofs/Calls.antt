@@ -15,7 +15,7 @@ use Rattle.table.specs.declared.Refusal.TheVariants.{NotWellFormed}
 use Rattle.book.specs.Given.{Reached, begun, read, SomeStart}
 use Rattle.book.specs.Reading.{after, read_from, read_book}
 use Rattle.book.specs.Sound.{sound_test, call_rule, record_at}
-use Rattle.records.specs.Step.{start, refused_at, first_of, stepAt}
+use Rattle.records.specs.Step.{start, refused_at, first_of, step_at}
 use Rattle.records.specs.declared.Outcome.TheVariants.{Given, Refused}
 use Rattle.records.specs.declared.Record.{Record}
 use Rattle.records.specs.declared.SoFar.{SoFar}
@@ -25,45 +25,45 @@ use Rattle.book_laws.specs.Calls.{calls_from}
 use Rattle.book_laws.specs.Records.{BytesAt}
 use Rattle.book_laws.specs.Refuses.{Refuses}
 use Rattle.book_laws.proofs.Good.{reached_good}
-use Rattle.book_laws.proofs.Numbers.{call-refuses, refuses-call, step-number}
+use Rattle.book_laws.proofs.Numbers.{call_refuses, refuses_call, step_number}
 use Rattle.book_laws.proofs.Starts.{reached_sound, start_sound, sound_start}
 use Rattle.book_laws.proofs.Records.{record_of, given_record, record_there}
 
 module _ (book : List ℕ) (place : ℕ) (sofar : SoFar) where
   -- where the test holds and the place is in the book, the call is the step
-  call_step : sound_test sofar ≡ true → place ≤ length book → record_at book place sofar ≡ stepAt book place sofar
-  unfolding record_at call_rule stepAt first_of
+  call_step : sound_test sofar ≡ true → place ≤ length book → record_at book place sofar ≡ step_at book place sofar
+  unfolding record_at call_rule step_at first_of
   call_step h l = rw (h, le-ltb (length book) place l)
 
   -- ---- "A reading so far that no start of any book gives, or a place past the lent book's end, gives 20", and only those
 
-  pub twenty-given : OfType sofar.table → (SomeStart sofar → ⊥) ⊎ (length book < place) → record_at book place sofar ≡ refused_at NotWellFormed place
+  pub twenty_given : OfType sofar.table → (SomeStart sofar → ⊥) ⊎ (length book < place) → record_at book place sofar ≡ refused_at NotWellFormed place
   unfolding call_rule
-  twenty-given o u = call-refuses book place sofar NotWellFormed (go (sound_test sofar) refl u)
+  twenty_given o u = call_refuses book place sofar NotWellFormed (go (sound_test sofar) refl u)
     where
       go : (b : Bool) → sound_test sofar ≡ b → (SomeStart sofar → ⊥) ⊎ (length book < place) → Refuses NotWellFormed (call_rule book place sofar).checks
       go false h u = inl (rw h, refl)
       go true h (inl none) = absurd (none (sound_start sofar o h))
       go true h (inr l) = inr (rw h, inl (lt-ltb (length book) place l, refl))
 
-  pub given-twenty : (record_at book place sofar).outcome ≡ Refused NotWellFormed → (SomeStart sofar → ⊥) ⊎ (length book < place)
+  pub given_twenty : (record_at book place sofar).outcome ≡ Refused NotWellFormed → (SomeStart sofar → ⊥) ⊎ (length book < place)
   unfolding call_rule
-  given-twenty e = go (refuses-call book place sofar NotWellFormed e)
+  given_twenty e = go (refuses_call book place sofar NotWellFormed e)
     where
       go : Refuses NotWellFormed (call_rule book place sofar).checks → (SomeStart sofar → ⊥) ⊎ (length book < place)
       go (inl (h, q)) = inl (λ s. clash (sound_test sofar) (start_sound sofar s) (not-true (sound_test sofar) h))
       go (inr (h, inl (l, q))) = inr (ltb-true (length book) place l)
-      go (inr (h, inr (l, r))) = let n = step-number book place sofar NotWellFormed r in absurd (omega arith)
+      go (inr (h, inr (l, r))) = let n = step_number book place sofar NotWellFormed r in absurd (omega arith)
 
   -- ---- the records that it gives are the book's
 
-  pub call-record : (r : Record) → (record_at book place sofar).outcome ≡ Given r → BytesAt book place r (record_at book place sofar).place
-  unfolding record_at call_rule stepAt first_of
-  call-record r e = go (sound_test sofar) (ltb (length book) place) e (record_there book place sofar r)
+  pub call_record : (r : Record) → (record_at book place sofar).outcome ≡ Given r → BytesAt book place r (record_at book place sofar).place
+  unfolding record_at call_rule step_at first_of
+  call_record r e = go (sound_test sofar) (ltb (length book) place) e (record_there book place sofar r)
     where
-      go : (a b : Bool) → (pick (not a) (refused_at NotWellFormed place) (pick b (refused_at NotWellFormed place) (stepAt book place sofar))).outcome ≡ Given r
-          → ((stepAt book place sofar).outcome ≡ Given r → BytesAt book place r (stepAt book place sofar).place)
-          → BytesAt book place r (pick (not a) (refused_at NotWellFormed place) (pick b (refused_at NotWellFormed place) (stepAt book place sofar))).place
+      go : (a b : Bool) → (pick (not a) (refused_at NotWellFormed place) (pick b (refused_at NotWellFormed place) (step_at book place sofar))).outcome ≡ Given r
+          → ((step_at book place sofar).outcome ≡ Given r → BytesAt book place r (step_at book place sofar).place)
+          → BytesAt book place r (pick (not a) (refused_at NotWellFormed place) (pick b (refused_at NotWellFormed place) (step_at book place sofar))).place
       go false b e k = let z : ◌≡◌ {A = ℕ} 0 1 = cc in absurd (omega arith)
       go true true e k = let z : ◌≡◌ {A = ℕ} 0 1 = cc in absurd (omega arith)
       go true false e k = k e
@@ -71,7 +71,7 @@ module _ (book : List ℕ) (place : ℕ) (sofar : SoFar) where
 -- ---- "from the book's start the answers are the same"
 
 -- at a place that a start of the book has led to, the call is the step
-pub reached_call : {book : List ℕ} {place : ℕ} {sofar : SoFar} → Reached book place sofar → record_at book place sofar ≡ stepAt book place sofar
+pub reached_call : {book : List ℕ} {place : ℕ} {sofar : SoFar} → Reached book place sofar → record_at book place sofar ≡ step_at book place sofar
 reached_call {book} {place} {sofar} x = call_step book place sofar (reached_sound x) (reached_good x).inside
 
 -- and the calls go on as the reading does
@@ -81,7 +81,7 @@ calls_same (suc n) book place sofar x =
     rw (reached_call x)
     (go (steps book place sofar) refl (calls_same n book))
   where
-    go : {s : Stepped} → Steps book place sofar s → stepAt book place sofar ≡ s → ((p : ℕ) (q : SoFar) → Reached book p q → calls_from n book p q ≡ read_from n book p q)
+    go : {s : Stepped} → Steps book place sofar s → step_at book place sofar ≡ s → ((p : ℕ) (q : SoFar) → Reached book p q → calls_from n book p q ≡ read_from n book p q)
         → after s.outcome s (calls_from n book s.place s.sofar) ≡ after s.outcome s (read_from n book s.place s.sofar)
     go (refuses why) e ih = refl
     go (accepts l u) e ih = refl

@@ -12,16 +12,16 @@ use Rattle.folds.proofs.Bools.{clash}
 use Rattle.table.specs.declared.Refusal.TheVariants.{NoEnd, BytesFollow}
 use Rattle.table.specs.declared.Verdict.TheVariants.{Refused}
 use Rattle.book.specs.Reading.{read_book}
-use Rattle.records.specs.Step.{rank_of, edgeRule}
+use Rattle.records.specs.Step.{rank_of, edge_rule}
 use Rattle.records.specs.declared.SoFar.{SoFar}
 use Rattle.book_laws.specs.Refuses.{StopsAt, AfterEnd}
 use Rattle.book_laws.proofs.Good.{ended, reached_good}
-use Rattle.book_laws.proofs.Numbers.{EdgeOr, edge-or, reading_stops}
+use Rattle.book_laws.proofs.Numbers.{EdgeOr, edge_or, reading_stops}
 
 module _ (book : List ℕ) (place : ℕ) (sofar : SoFar) where
   -- 3 is given where the book stops
   over : EdgeOr book place sofar NoEnd → length book ≤ place
-  unfolding edgeRule
+  unfolding edge_rule
   over (inl (inl l, r)) = l
   over (inl (inr u, inl (h, q))) = clash (eqb (rank_of sofar.stage) 3) u (not-true (eqb (rank_of sofar.stage) 3) h)
   over (inl (inr u, inr (h, inl (l, q)))) = let z : ◌≡◌ {A = ℕ} 0 1 = cc in absurd (omega arith)
@@ -30,7 +30,7 @@ module _ (book : List ℕ) (place : ℕ) (sofar : SoFar) where
 
   -- 12 past the end record
   past : EdgeOr book place sofar BytesFollow → (eqb (rank_of sofar.stage) 3 ≡ true) × (place < length book)
-  unfolding edgeRule
+  unfolding edge_rule
   past (inl (u, inl (h, q))) = let z : ◌≡◌ {A = ℕ} 0 1 = cc in absurd (omega arith)
   past (inl (u, inr (h, inl (l, q)))) = (not-false (eqb (rank_of sofar.stage) 3) h, ltb-true place (length book) l)
   past (inl (u, inr (h, inr r))) = absurd r.1
@@ -41,7 +41,7 @@ pub no_end_place : (book : List ℕ) → (read_book book).verdict ≡ Refused No
 no_end_place book h = go (reading_stops book NoEnd h)
   where
     go : {place : ℕ} → StopsAt book NoEnd place → place ≡ length book
-    go {place} s = omega (arith, over book place s.sofar (edge-or book place s.sofar NoEnd s.refuses), (reached_good s.reached).inside)
+    go {place} s = omega (arith, over book place s.sofar (edge_or book place s.sofar NoEnd s.refuses), (reached_good s.reached).inside)
 
 -- "for 12 it is that of the byte after the end record"
 pub bytes_follow_place : (book : List ℕ) → (read_book book).verdict ≡ Refused BytesFollow → AfterEnd book (read_book book).place
@@ -49,6 +49,6 @@ bytes_follow_place book h = go (reading_stops book BytesFollow h)
   where
     go : {place : ℕ} → StopsAt book BytesFollow place → AfterEnd book place
     go {place} s =
-        let p = past book place s.sofar (edge-or book place s.sofar BytesFollow s.refuses) in
+        let p = past book place s.sofar (edge_or book place s.sofar BytesFollow s.refuses) in
         let g = reached_good s.reached in
         record { table = s.sofar.table; formed = g.formed; before = g.taken ∙ ended s.sofar.stage s.sofar.table p.0; more = p.1 }

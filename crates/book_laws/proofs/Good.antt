@@ -11,17 +11,17 @@ use lib.Dec.{eqb}
 use lib.ListN.{length, get_or, take, length-take, length-append}
 use Rattle.folds.specs.Fold.{always}
 use Rattle.folds.proofs.Below.{below_cases}
-use Rattle.folds.proofs.Joined.{joined-none}
+use Rattle.folds.proofs.Joined.{joined_none}
 use Rattle.table.specs.Table.{empty_table, output_at}
 use Rattle.table.specs.WellFormed.{WellFormed, OfType}
 use Rattle.table.specs.declared.Table.{Table}
 use Rattle.table.proofs.Stored.{cell_here, cell_there}
 use Rattle.table.proofs.Empty.{empty_formed, empty_typed}
-use Rattle.book.specs.BookOf.{testBytes, faultBytes, responsesOf, bookOf}
+use Rattle.book.specs.BookOf.{test_bytes, fault_bytes, responses_of, book_of}
 use Rattle.book.specs.Given.{Bytes, Reached, begun, read}
 use Rattle.grow.specs.Grow.{with_fault, with_response}
 use Rattle.book.specs.Sound.{order_of}
-use Rattle.records.specs.Step.{start, record_bytes, rank_of, testRule, faultRule, responseRule, endRule}
+use Rattle.records.specs.Step.{start, record_bytes, rank_of, test_rule, fault_rule, response_rule, end_rule}
 use Rattle.records.specs.declared.Outcome.TheVariants.{Given}
 use Rattle.records.specs.declared.Record.{Record}
 use Rattle.records.specs.declared.SoFar.{SoFar}
@@ -29,9 +29,9 @@ use Rattle.records.specs.declared.Stage.{Stage}
 use Rattle.records.specs.declared.Stage.TheVariants.{Tests, Faults, Responses, Ended}
 use Rattle.records.specs.declared.Stepped.{Stepped}
 use Rattle.records.proofs.Steps.{Gives, test, fault, response, ending, Steps, refuses, accepts, gives, steps}
-use Rattle.book_laws.proofs.Grown.{Long, long_of, filled_here, filled_there, test-formed, fault-formed, response-formed, test-long, fault-long, response-long, test-typed, fault-typed, response-typed}
+use Rattle.book_laws.proofs.Grown.{Long, long_of, filled_here, filled_there, test_formed, fault_formed, response_formed, test_long, fault_long, response_long, test_typed, fault_typed, response_typed}
 use Rattle.book_laws.proofs.Stages.{Correct, Fits, no_fault, no_response, correct_on}
-use Rattle.book_laws.proofs.Body.{testsOf, faultsOf, wrongOf, body_of, book-body, body-most, body-test, body-fault, body-response}
+use Rattle.book_laws.proofs.Body.{tests_of, faults_of, wrong_of, body_of, book_body, body_most, body_test, body_fault, body_response}
 use Rattle.book_laws.proofs.Records.{record_of, given_bytes, taken_on}
 
 -- the bytes of what has been read
@@ -39,7 +39,7 @@ abbrev pub bytes_read : Stage → Table → List ℕ
 bytes_read Tests tb = body_of tb
 bytes_read Faults tb = body_of tb
 bytes_read (Responses f t) tb = body_of tb
-bytes_read Ended tb = bookOf tb
+bytes_read Ended tb = book_of tb
 
 pub record Good (book : List ℕ) (place : ℕ) (sofar : SoFar) : Type 0 where
   pub formed : WellFormed sofar.table
@@ -50,8 +50,8 @@ pub record Good (book : List ℕ) (place : ℕ) (sofar : SoFar) : Type 0 where
   pub inside : place ≤ length book
 
 empty_body : [] ≡ body_of empty_table
-unfolding body_of testsOf faultsOf wrongOf empty_table
-empty_body = rw (joined-none always (testBytes empty_table), joined-none always (faultBytes empty_table), joined-none always (responsesOf empty_table))
+unfolding body_of tests_of faults_of wrong_of empty_table
+empty_body = rw (joined_none always (test_bytes empty_table), joined_none always (fault_bytes empty_table), joined_none always (responses_of empty_table))
 
 pub start_good : (book : List ℕ) → Good book 0 start
 unfolding empty_table
@@ -93,7 +93,7 @@ not_ended Faults tb u = refl
 not_ended (Responses f t) tb u = refl
 not_ended Ended tb u = absurd (eqb-false 3 3 u refl)
 
-pub ended : (stage : Stage) (tb : Table) → eqb (rank_of stage) 3 ≡ true → bytes_read stage tb ≡ bookOf tb
+pub ended : (stage : Stage) (tb : Table) → eqb (rank_of stage) 3 ≡ true → bytes_read stage tb ≡ book_of tb
 ended Tests tb u = absurd (omega (arith, eqb-true 0 3 u))
 ended Faults tb u = absurd (omega (arith, eqb-true 1 3 u))
 ended (Responses f t) tb u = absurd (omega (arith, eqb-true 2 3 u))
@@ -112,46 +112,46 @@ module _ {book : List ℕ} {place : ℕ} {sofar : SoFar} (g : Good book place so
   grown : {s : Stepped} (k : Gives book place sofar s) → take s.place book ≡ body_of tb ++ record_bytes (record_of k)
   grown {s} k = taken_on book place (record_of k) s.place (given_bytes k) ∙ ap (λ (x : List ℕ). x ++ record_bytes (record_of k)) (g.taken ∙ not_ended sofar.stage tb u)
 
-  pub good-step : {s : Stepped} → Gives book place sofar s → Good book s.place s.sofar
-  unfolding testRule faultRule responseRule endRule
-  good-step {s} (test h k) =
+  pub good_step : {s : Stepped} → Gives book place sofar s → Good book s.place s.sofar
+  unfolding test_rule fault_rule response_rule end_rule
+  good_step {s} (test h k) =
       let z = no_fault sofar.stage tb g.fits k.1.0 in
       let few : tb.tests < 24 = omega (arith, leb-false) in
       record {
-        formed = test-formed tb g.formed (byte 1) few;
-        long = test-long (byte 1) g.long;
-        typed = λ b. test-typed (byte 1) (b (place + 1)) (g.typed b);
+        formed = test_formed tb g.formed (byte 1) few;
+        long = test_long (byte 1) g.long;
+        typed = λ b. test_typed (byte 1) (b (place + 1)) (g.typed b);
         fits = z;
-        taken = grown (test h k) ∙ sym (body-test tb g.long (byte 1) few z);
+        taken = grown (test h k) ∙ sym (body_test tb g.long (byte 1) few z);
         inside = omega (arith, ltb-false);
       }
-  good-step {s} (fault h k) =
+  good_step {s} (fault h k) =
       let c = no_response sofar.stage tb g.fits k.1.0 in
       let few : tb.faults < 60 = omega (arith, leb-false) in
       let d = fault_correct_lem tb (byte 1) (byte 2) g.formed g.long few c in
       record {
-        formed = fault-formed tb g.formed g.long (byte 1) (byte 2) few (omega (arith, ltb-false)) (not-false _ k.1.1.1.1.0);
-        long = fault-long (byte 1) (byte 2) g.long;
-        typed = λ b. fault-typed (byte 1) (byte 2) (b (place + 1)) (b (place + 2)) (g.typed b);
+        formed = fault_formed tb g.formed g.long (byte 1) (byte 2) few (omega (arith, ltb-false)) (not-false _ k.1.1.1.1.0);
+        long = fault_long (byte 1) (byte 2) g.long;
+        typed = λ b. fault_typed (byte 1) (byte 2) (b (place + 1)) (b (place + 2)) (g.typed b);
         fits = (omega arith, d);
-        taken = grown (fault h k) ∙ sym (body-fault tb g.long g.formed (byte 1) (byte 2) few c d);
+        taken = grown (fault h k) ∙ sym (body_fault tb g.long g.formed (byte 1) (byte 2) few c d);
         inside = omega (arith, ltb-false);
       }
-  good-step {s} (response h k) =
+  good_step {s} (response h k) =
       let t : byte 1 < tb.tests = omega (arith, leb-false) in
       let f : byte 2 < tb.faults = omega (arith, leb-false) in
       let ne = eqb-false _ _ k.1.1.1.1.0 in
       let c = correct_on sofar.stage tb (byte 2) (byte 1) g.formed.tests_fit g.fits u k.1.1.1.0 in
       let d = response_fits tb (byte 1) (byte 2) (byte 3) g.formed g.long t f ne c in
       record {
-        formed = response-formed tb g.formed (byte 1) (byte 2) (byte 3) t f;
-        long = response-long (byte 1) (byte 2) (byte 3) g.long;
-        typed = λ b. response-typed (byte 1) (byte 2) (byte 3) (b (place + 3)) (g.typed b);
+        formed = response_formed tb g.formed (byte 1) (byte 2) (byte 3) t f;
+        long = response_long (byte 1) (byte 2) (byte 3) g.long;
+        typed = λ b. response_typed (byte 1) (byte 2) (byte 3) (b (place + 3)) (g.typed b);
         fits = d;
-        taken = grown (response h k) ∙ sym (body-response tb g.long g.formed (byte 1) (byte 2) (byte 3) t f c d.3 ne);
+        taken = grown (response h k) ∙ sym (body_response tb g.long g.formed (byte 1) (byte 2) (byte 3) t f c d.3 ne);
         inside = omega (arith, ltb-false);
       }
-  good-step {s} (ending h k) =
+  good_step {s} (ending h k) =
       let t = eqb-true (byte 1) tb.tests (not-false (eqb (byte 1) tb.tests) k.1.0) in
       let f = eqb-true (byte 2) tb.faults (not-false (eqb (byte 2) tb.faults) k.1.1.0) in
       record {
@@ -159,7 +159,7 @@ module _ {book : List ℕ} {place : ℕ} {sofar : SoFar} (g : Good book place so
         long = g.long;
         typed = g.typed;
         fits = tt;
-        taken = grown (ending h k) ∙ rw (t, f) (sym (book-body tb));
+        taken = grown (ending h k) ∙ rw (t, f) (sym (book_body tb));
         inside = omega (arith, ltb-false);
       }
 
@@ -169,16 +169,16 @@ pub open_place : {book : List ℕ} {place : ℕ} {sofar : SoFar} → Good book p
 open_place {book} {place} {sofar} g u =
     let w = g.formed in
     let e : length (take place book) ≡ length (body_of sofar.table) = ap length (g.taken ∙ not_ended sofar.stage sofar.table u) in
-    omega (arith, e, length-take place book, body-most sofar.table w.tests_fit w.faults_fit, g.inside)
+    omega (arith, e, length-take place book, body_most sofar.table w.tests_fit w.faults_fit, g.inside)
 
-pub book_most : (tb : Table) → WellFormed tb → length (bookOf tb) ≤ 5991
-book_most tb w = rw (book-body tb) (simp length-append (omega (arith, body-most tb w.tests_fit w.faults_fit)))
+pub book_most : (tb : Table) → WellFormed tb → length (book_of tb) ≤ 5991
+book_most tb w = rw (book_body tb) (simp length-append (omega (arith, body_most tb w.tests_fit w.faults_fit)))
 
 pub any_place : {book : List ℕ} {place : ℕ} {sofar : SoFar} → Good book place sofar → place ≤ 5991
 any_place {book} {place} {sofar} g = go sofar.stage g.taken
   where
     body : take place book ≡ body_of sofar.table → place ≤ 5991
-    body e = omega (arith, ap length e, length-take place book, body-most sofar.table g.formed.tests_fit g.formed.faults_fit, g.inside)
+    body e = omega (arith, ap length e, length-take place book, body_most sofar.table g.formed.tests_fit g.formed.faults_fit, g.inside)
 
     go : (stage : Stage) → take place book ≡ bytes_read stage sofar.table → place ≤ 5991
     go Tests e = body e
@@ -190,7 +190,7 @@ any_place {book} {place} {sofar} g = go sofar.stage g.taken
 kept : {book : List ℕ} {place : ℕ} {sofar : SoFar} {s : Stepped} → Good book place sofar → Steps book place sofar s → (r : Record) → s.outcome ≡ Given r → Good book s.place s.sofar
 kept g (refuses why) r e = let z : ◌≡◌ {A = ℕ} 0 1 = cc in absurd (omega arith)
 kept g (accepts h u) r e = let z : ◌≡◌ {A = ℕ} 0 1 = cc in absurd (omega arith)
-kept g (gives h u k) r e = good-step g u k
+kept g (gives h u k) r e = good_step g u k
 
 pub reached_good : {book : List ℕ} {place : ℕ} {sofar : SoFar} → Reached book place sofar → Good book place sofar
 reached_good {book} begun = start_good book

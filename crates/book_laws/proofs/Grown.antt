@@ -62,19 +62,19 @@ filled_byte cells c (suc n) b k = stored_byte (filled cells c n) (place_of n c) 
 -- ---- a label that no fault has so far
 
 module _ (lines stuck : List ℕ) (l v n : ℕ) where
-  pub new-label : every (differs lines stuck l v) n ≡ true → (f : ℕ) → f < n → get_or lines f 0 ≡ l → get_or stuck f 0 ≡ v → ⊥
+  pub new_label : every (differs lines stuck l v) n ≡ true → (f : ℕ) → f < n → get_or lines f 0 ≡ l → get_or stuck f 0 ≡ v → ⊥
   unfolding differs
-  new-label h f w p q = both_no _ _ (every_at (differs lines stuck l v) n f h w) (eq-eqb _ _ p) (eq-eqb _ _ q)
+  new_label h f w p q = both_no _ _ (every_at (differs lines stuck l v) n f h w) (eq-eqb _ _ p) (eq-eqb _ _ q)
 
-  pub label-new : ((f : ℕ) → f < n → get_or lines f 0 ≡ l → get_or stuck f 0 ≡ v → ⊥) → every (differs lines stuck l v) n ≡ true
+  pub label_new : ((f : ℕ) → f < n → get_or lines f 0 ≡ l → get_or stuck f 0 ≡ v → ⊥) → every (differs lines stuck l v) n ≡ true
   unfolding differs
-  label-new h = every_of (differs lines stuck l v) n (λ f w. no_both _ _ (λ p q. h f w (eqb-true _ _ p) (eqb-true _ _ q)))
+  label_new h = every_of (differs lines stuck l v) n (λ f w. no_both _ _ (λ p q. h f w (eqb-true _ _ p) (eqb-true _ _ q)))
 
 -- ---- well formed
 
 module _ (tb : Table) (w : WellFormed tb) where
-  pub test-formed : (x : ℕ) → tb.tests < 24 → WellFormed (with_test tb x)
-  test-formed x h = record {
+  pub test_formed : (x : ℕ) → tb.tests < 24 → WellFormed (with_test tb x)
+  test_formed x h = record {
     tests_fit = omega arith;
     faults_fit = w.faults_fit;
     stuck_fit = w.stuck_fit;
@@ -86,8 +86,8 @@ module _ (tb : Table) (w : WellFormed tb) where
     labels_clear = w.labels_clear;
   }
 
-  pub response-formed : (t f x : ℕ) → t < tb.tests → f < tb.faults → WellFormed (with_response tb t f x)
-  response-formed t f x h l = record {
+  pub response_formed : (t f x : ℕ) → t < tb.tests → f < tb.faults → WellFormed (with_response tb t f x)
+  response_formed t f x h l = record {
     tests_fit = w.tests_fit;
     faults_fit = w.faults_fit;
     stuck_fit = w.stuck_fit;
@@ -100,10 +100,10 @@ module _ (tb : Table) (w : WellFormed tb) where
   }
 
   module _ (long : Long tb) (l v : ℕ) (h : tb.faults < 60) where
-    label-one : (f g : ℕ) → g < f → f < tb.faults + 1 → every (differs tb.lines tb.stuck l v) tb.faults ≡ true
+    label_one : (f g : ℕ) → g < f → f < tb.faults + 1 → every (differs tb.lines tb.stuck l v) tb.faults ≡ true
         → get_or (set tb.lines tb.faults l) f 0 ≡ get_or (set tb.lines tb.faults l) g 0
         → get_or (set tb.stuck tb.faults v) f 0 ≡ get_or (set tb.stuck tb.faults v) g 0 → ⊥
-    label-one f g k m e p q =
+    label_one f g k m e p q =
         let gl = get_or-set_other tb.lines tb.faults g l 0 (λ x. omega arith) in
         let gs = get_or-set_other tb.stuck tb.faults g v 0 (λ x. omega arith) in
         ⊎_elim
@@ -114,16 +114,16 @@ module _ (tb : Table) (w : WellFormed tb) where
         (λ (x : f ≡ tb.faults).
         let fl : get_or (set tb.lines tb.faults l) f 0 ≡ l = rw x (get_or-set_same tb.lines tb.faults l 0 (omega (arith, long.lines))) in
         let fs : get_or (set tb.stuck tb.faults v) f 0 ≡ v = rw x (get_or-set_same tb.stuck tb.faults v 0 (omega (arith, long.stuck))) in
-        new-label tb.lines tb.stuck l v tb.faults e g (omega arith) (sym gl ∙ sym p ∙ fl) (sym gs ∙ sym q ∙ fs))
+        new_label tb.lines tb.stuck l v tb.faults e g (omega arith) (sym gl ∙ sym p ∙ fl) (sym gs ∙ sym q ∙ fs))
         (below_cases f tb.faults (omega arith))
 
-    pub fault-formed : v ≤ 1 → every (differs tb.lines tb.stuck l v) tb.faults ≡ true → WellFormed (with_fault tb l v)
-    fault-formed hv e = record {
+    pub fault_formed : v ≤ 1 → every (differs tb.lines tb.stuck l v) tb.faults ≡ true → WellFormed (with_fault tb l v)
+    fault_formed hv e = record {
       tests_fit = w.tests_fit;
       faults_fit = omega arith;
       stuck_fit = λ f m. stored (λ x. x ≤ 1) tb.stuck tb.faults v f (omega (arith, long.stuck)) (λ _. hv)
           (λ ne. ⊎_elim (λ (x : f < tb.faults). w.stuck_fit f x) (λ (x : f ≡ tb.faults). absurd (ne x)) (below_cases f tb.faults (omega arith)));
-      distinct = λ f g k m p q. label-one f g k m e p q;
+      distinct = λ f g k m p q. label_one f g k m e p q;
       cells_clear = λ t c m k u.
           filled_there tb.cells (tb.faults + 1) tb.tests t c (omega arith) w.tests_fit m k
           (⊎_elim (λ (x : tb.tests ≤ t). inl x) (λ (x : tb.faults + 1 + 1 ≤ c). inr (λ y. omega arith)) u)
@@ -136,18 +136,18 @@ module _ (tb : Table) (w : WellFormed tb) where
 -- ---- of the type
 
 module _ {tb : Table} where
-  pub test-long : (x : ℕ) → Long tb → Long (with_test tb x)
-  test-long x o = record { cells = simp length-set o.cells; lines = o.lines; stuck = o.stuck }
+  pub test_long : (x : ℕ) → Long tb → Long (with_test tb x)
+  test_long x o = record { cells = simp length-set o.cells; lines = o.lines; stuck = o.stuck }
 
-  pub fault-long : (l v : ℕ) → Long tb → Long (with_fault tb l v)
-  fault-long l v o = record { cells = filled_length tb.cells (tb.faults + 1) tb.tests ∙ o.cells; lines = simp length-set o.lines; stuck = simp length-set o.stuck }
+  pub fault_long : (l v : ℕ) → Long tb → Long (with_fault tb l v)
+  fault_long l v o = record { cells = filled_length tb.cells (tb.faults + 1) tb.tests ∙ o.cells; lines = simp length-set o.lines; stuck = simp length-set o.stuck }
 
-  pub response-long : (t f x : ℕ) → Long tb → Long (with_response tb t f x)
-  response-long t f x o = record { cells = simp length-set o.cells; lines = o.lines; stuck = o.stuck }
+  pub response_long : (t f x : ℕ) → Long tb → Long (with_response tb t f x)
+  response_long t f x o = record { cells = simp length-set o.cells; lines = o.lines; stuck = o.stuck }
 
-  pub test-typed : (x : ℕ) → x < 256 → OfType tb → OfType (with_test tb x)
-  test-typed x h o =
-      let n = test-long x (long_of o) in
+  pub test_typed : (x : ℕ) → x < 256 → OfType tb → OfType (with_test tb x)
+  test_typed x h o =
+      let n = test_long x (long_of o) in
       record {
         cells_long = n.cells;
         lines_long = n.lines;
@@ -157,9 +157,9 @@ module _ {tb : Table} where
         stuck_bytes = o.stuck_bytes;
       }
 
-  pub fault-typed : (l v : ℕ) → l < 256 → v < 256 → OfType tb → OfType (with_fault tb l v)
-  fault-typed l v h k o =
-      let n = fault-long l v (long_of o) in
+  pub fault_typed : (l v : ℕ) → l < 256 → v < 256 → OfType tb → OfType (with_fault tb l v)
+  fault_typed l v h k o =
+      let n = fault_long l v (long_of o) in
       record {
         cells_long = n.cells;
         lines_long = n.lines;
@@ -169,9 +169,9 @@ module _ {tb : Table} where
         stuck_bytes = stored_byte tb.stuck tb.faults v k o.stuck_bytes;
       }
 
-  pub response-typed : (t f x : ℕ) → x < 256 → OfType tb → OfType (with_response tb t f x)
-  response-typed t f x h o =
-      let n = response-long t f x (long_of o) in
+  pub response_typed : (t f x : ℕ) → x < 256 → OfType tb → OfType (with_response tb t f x)
+  response_typed t f x h o =
+      let n = response_long t f x (long_of o) in
       record {
         cells_long = n.cells;
         lines_long = n.lines;

@@ -17,31 +17,31 @@ use Rattle.table.specs.declared.Refusal.{Refusal}
 use Rattle.book.specs.Reading.{read_book}
 use Rattle.book.specs.Sound.{call_rule, record_at}
 use Rattle.table.specs.Table.{empty_table}
-use Rattle.records.specs.Step.{Check, Rule, rank_of, refused_at, first_of, testRule, faultRule, responseRule, endRule, unknownRule, edgeRule, kindRule, ruleAt, stepAt}
+use Rattle.records.specs.Step.{Check, Rule, rank_of, refused_at, first_of, test_rule, fault_rule, response_rule, end_rule, unknown_rule, edge_rule, kind_rule, rule_at, step_at}
 use Rattle.records.specs.declared.Outcome.TheVariants.{Given, Refused}
 use Rattle.records.specs.declared.Record.{Record}
 use Rattle.records.specs.declared.SoFar.{SoFar}
 use Rattle.records.specs.declared.Stepped.{Stepped}
 use Rattle.records.proofs.Steps.{AllPast, way}
 use Rattle.book_laws.specs.Refuses.{Refuses, StopsAt}
-use Rattle.book_laws.proofs.Readings.{Ends, refused, accepted, ends, refused-reading}
+use Rattle.book_laws.proofs.Readings.{Ends, refused, accepted, ends, refused_reading}
 use Rattle.table.specs.declared.Verdict.TheVariants as verdict
 
 -- ---- one lemma over a list of checks
 
 module _ (place : ℕ) (gives : Stepped) (why : Refusal) where
   -- where the condition holds, the step is the refusal
-  pub refuses-gives : (ks : List Check) → Refuses why ks → first_of ks place gives ≡ refused_at why place
+  pub refuses_gives : (ks : List Check) → Refuses why ks → first_of ks place gives ≡ refused_at why place
   unfolding first_of
-  refuses-gives [] r = absurd r
-  refuses-gives (k ∷ ks) (inl (h, e)) = rw (h, e)
-  refuses-gives (k ∷ ks) (inr (h, r)) = rw h (refuses-gives ks r)
+  refuses_gives [] r = absurd r
+  refuses_gives (k ∷ ks) (inl (h, e)) = rw (h, e)
+  refuses_gives (k ∷ ks) (inr (h, r)) = rw h (refuses_gives ks r)
 
   -- and where the step is the refusal, the condition holds, if it is not what follows the checks
-  pub gives-refuses : (ks : List Check) → (AllPast ks → gives.outcome ≡ Refused why → ⊥) → (first_of ks place gives).outcome ≡ Refused why → Refuses why ks
+  pub gives_refuses : (ks : List Check) → (AllPast ks → gives.outcome ≡ Refused why → ⊥) → (first_of ks place gives).outcome ≡ Refused why → Refuses why ks
   unfolding first_of
-  gives-refuses [] n e = n tt e
-  gives-refuses (k ∷ ks) n e = go k.holds refl e (gives-refuses ks)
+  gives_refuses [] n e = n tt e
+  gives_refuses (k ∷ ks) n e = go k.holds refl e (gives_refuses ks)
     where
       go : (b : Bool) → k.holds ≡ b → (pick b (refused_at k.why place) (first_of ks place gives)).outcome ≡ Refused why
           → ((AllPast ks → gives.outcome ≡ Refused why → ⊥) → (first_of ks place gives).outcome ≡ Refused why → Refuses why ks) → Refuses why (k ∷ ks)
@@ -76,86 +76,86 @@ given_not : (r : Record) (why : Refusal) → Given r ≡ Refused why → ⊥
 given_not r why e = let z : ◌≡◌ {A = ℕ} 0 1 = cc in omega arith
 
 module _ (book : List ℕ) (place : ℕ) (sofar : SoFar) where
-  test-right : Right of_record (testRule book place sofar)
-  unfolding testRule
-  test-right = record { numbered = refl; follows = λ why k q. given_not _ why q }
+  test_right : Right of_record (test_rule book place sofar)
+  unfolding test_rule
+  test_right = record { numbered = refl; follows = λ why k q. given_not _ why q }
 
-  fault-right : Right of_record (faultRule book place sofar)
-  unfolding faultRule
-  fault-right = record { numbered = refl; follows = λ why k q. given_not _ why q }
+  fault_right : Right of_record (fault_rule book place sofar)
+  unfolding fault_rule
+  fault_right = record { numbered = refl; follows = λ why k q. given_not _ why q }
 
-  response-right : Right of_record (responseRule book place sofar)
-  unfolding responseRule
-  response-right = record { numbered = refl; follows = λ why k q. given_not _ why q }
+  response_right : Right of_record (response_rule book place sofar)
+  unfolding response_rule
+  response_right = record { numbered = refl; follows = λ why k q. given_not _ why q }
 
-  end-right : Right of_record (endRule book place sofar)
-  unfolding endRule
-  end-right = record { numbered = refl; follows = λ why k q. given_not _ why q }
+  end_right : Right of_record (end_rule book place sofar)
+  unfolding end_rule
+  end_right = record { numbered = refl; follows = λ why k q. given_not _ why q }
 
-  unknown-right : Right of_record (unknownRule book place sofar)
-  unfolding unknownRule
-  unknown-right = record { numbered = refl; follows = λ why k q. clash true refl k.0 }
+  unknown_right : Right of_record (unknown_rule book place sofar)
+  unfolding unknown_rule
+  unknown_right = record { numbered = refl; follows = λ why k q. clash true refl k.0 }
 
-  edge-right : Right of_edge (edgeRule book place sofar)
-  unfolding edgeRule
-  edge-right = record { numbered = refl; follows = λ why k q. let z : ◌≡◌ {A = ℕ} 0 1 = cc in omega arith }
+  edge_right : Right of_edge (edge_rule book place sofar)
+  unfolding edge_rule
+  edge_right = record { numbered = refl; follows = λ why k q. let z : ◌≡◌ {A = ℕ} 0 1 = cc in omega arith }
 
-  kind-right : (kind : ℕ) → Right of_record (kindRule book place sofar kind)
-  unfolding kindRule
-  kind-right kind =
-      way (Right of_record) (eqb kind 0x54) _ _ (λ _. test-right) λ _.
-      way (Right of_record) (eqb kind 0x46) _ _ (λ _. fault-right) λ _.
-      way (Right of_record) (eqb kind 0x52) _ _ (λ _. response-right) λ _.
-      way (Right of_record) (eqb kind 0x45) _ _ (λ _. end-right) λ _.
-      unknown-right
+  kind_right : (kind : ℕ) → Right of_record (kind_rule book place sofar kind)
+  unfolding kind_rule
+  kind_right kind =
+      way (Right of_record) (eqb kind 0x54) _ _ (λ _. test_right) λ _.
+      way (Right of_record) (eqb kind 0x46) _ _ (λ _. fault_right) λ _.
+      way (Right of_record) (eqb kind 0x52) _ _ (λ _. response_right) λ _.
+      way (Right of_record) (eqb kind 0x45) _ _ (λ _. end_right) λ _.
+      unknown_right
 
-  rule-follows : (why : Refusal) → AllPast (ruleAt book place sofar).checks → (ruleAt book place sofar).gives.outcome ≡ Refused why → ⊥
-  unfolding ruleAt
-  rule-follows why =
+  rule_follows : (why : Refusal) → AllPast (rule_at book place sofar).checks → (rule_at book place sofar).gives.outcome ≡ Refused why → ⊥
+  unfolding rule_at
+  rule_follows why =
       way (λ (r : Rule). AllPast r.checks → r.gives.outcome ≡ Refused why → ⊥)
-      (either (leb (length book) place) (eqb (rank_of sofar.stage) 3)) _ _ (λ _. edge-right.follows why) (λ _. (kind-right (get_or book place 0)).follows why)
+      (either (leb (length book) place) (eqb (rank_of sofar.stage) 3)) _ _ (λ _. edge_right.follows why) (λ _. (kind_right (get_or book place 0)).follows why)
 
   -- ---- "Given exactly when"
 
-  pub step-refuses : (why : Refusal) → Refuses why (ruleAt book place sofar).checks → stepAt book place sofar ≡ refused_at why place
-  unfolding stepAt
-  step-refuses why r = refuses-gives place (ruleAt book place sofar).gives why (ruleAt book place sofar).checks r
+  pub step_refuses : (why : Refusal) → Refuses why (rule_at book place sofar).checks → step_at book place sofar ≡ refused_at why place
+  unfolding step_at
+  step_refuses why r = refuses_gives place (rule_at book place sofar).gives why (rule_at book place sofar).checks r
 
-  pub refuses-step : (why : Refusal) → (stepAt book place sofar).outcome ≡ Refused why → Refuses why (ruleAt book place sofar).checks
-  unfolding stepAt
-  refuses-step why e = gives-refuses place (ruleAt book place sofar).gives why (ruleAt book place sofar).checks (rule-follows why) e
+  pub refuses_step : (why : Refusal) → (step_at book place sofar).outcome ≡ Refused why → Refuses why (rule_at book place sofar).checks
+  unfolding step_at
+  refuses_step why e = gives_refuses place (rule_at book place sofar).gives why (rule_at book place sofar).checks (rule_follows why) e
 
   -- with the call's own checks before them
-  pub call-refuses : (why : Refusal) → Refuses why (call_rule book place sofar).checks → record_at book place sofar ≡ refused_at why place
+  pub call_refuses : (why : Refusal) → Refuses why (call_rule book place sofar).checks → record_at book place sofar ≡ refused_at why place
   unfolding record_at
-  call-refuses why r = refuses-gives place (call_rule book place sofar).gives why (call_rule book place sofar).checks r
+  call_refuses why r = refuses_gives place (call_rule book place sofar).gives why (call_rule book place sofar).checks r
 
-  pub refuses-call : (why : Refusal) → (record_at book place sofar).outcome ≡ Refused why → Refuses why (call_rule book place sofar).checks
+  pub refuses_call : (why : Refusal) → (record_at book place sofar).outcome ≡ Refused why → Refuses why (call_rule book place sofar).checks
   unfolding record_at call_rule
-  refuses-call why e = gives-refuses place (call_rule book place sofar).gives why (call_rule book place sofar).checks (λ k q. rule-follows why k.1.1 q) e
+  refuses_call why e = gives_refuses place (call_rule book place sofar).gives why (call_rule book place sofar).checks (λ k q. rule_follows why k.1.1 q) e
 
   -- ---- where a refusal is given: at the book's end or past the end record, or for a record
 
   abbrev pub EdgeOr : Refusal → Type 0
   EdgeOr why =
-      (((length book ≤ place) ⊎ (eqb (rank_of sofar.stage) 3 ≡ true)) × Refuses why (edgeRule book place sofar).checks)
+      (((length book ≤ place) ⊎ (eqb (rank_of sofar.stage) 3 ≡ true)) × Refuses why (edge_rule book place sofar).checks)
       ⊎ (of_record (number_of why) ≡ true)
 
-  pub edge-or : (why : Refusal) → Refuses why (ruleAt book place sofar).checks → EdgeOr why
-  unfolding ruleAt
-  edge-or why = go (leb (length book) place) (eqb (rank_of sofar.stage) 3) refl refl
+  pub edge_or : (why : Refusal) → Refuses why (rule_at book place sofar).checks → EdgeOr why
+  unfolding rule_at
+  edge_or why = go (leb (length book) place) (eqb (rank_of sofar.stage) 3) refl refl
     where
-      go : (a b : Bool) → leb (length book) place ≡ a → eqb (rank_of sofar.stage) 3 ≡ b → Refuses why (pick (either a b) (edgeRule book place sofar) (kindRule book place sofar (get_or book place 0))).checks → EdgeOr why
+      go : (a b : Bool) → leb (length book) place ≡ a → eqb (rank_of sofar.stage) 3 ≡ b → Refuses why (pick (either a b) (edge_rule book place sofar) (kind_rule book place sofar (get_or book place 0))).checks → EdgeOr why
       go true b l u r = inl (inl (leb-true (length book) place l), r)
       go false true l u r = inl (inr u, r)
-      go false false l u r = inr (one_of of_record why (kindRule book place sofar (get_or book place 0)).checks (kind-right (get_or book place 0)).numbered r)
+      go false false l u r = inr (one_of of_record why (kind_rule book place sofar (get_or book place 0)).checks (kind_right (get_or book place 0)).numbered r)
 
   -- a step gives no other number than 1 to 12
-  pub step-number : (why : Refusal) → Refuses why (ruleAt book place sofar).checks → number_of why ≤ 12
-  step-number why r = go (edge-or why r)
+  pub step_number : (why : Refusal) → Refuses why (rule_at book place sofar).checks → number_of why ≤ 12
+  step_number why r = go (edge_or why r)
     where
       go : EdgeOr why → number_of why ≤ 12
-      go (inl (_, e)) = ⊎_elim (λ h. omega (arith, eqb-true (number_of why) 3 h)) (λ h. omega (arith, eqb-true (number_of why) 12 h)) (either_cases _ _ (one_of of_edge why (edgeRule book place sofar).checks edge-right.numbered e))
+      go (inl (_, e)) = ⊎_elim (λ h. omega (arith, eqb-true (number_of why) 3 h)) (λ h. omega (arith, eqb-true (number_of why) 12 h)) (either_cases _ _ (one_of of_edge why (edge_rule book place sofar).checks edge_right.numbered e))
       go (inr n) = omega (arith, leb-true (number_of why) 11 (both_left (leb (number_of why) 11) _ n))
 
 -- ---- a whole book: reading got to the place, and there the refusal is given
@@ -166,8 +166,8 @@ reading_stops book why h = go (ends book) h
     go : {r : Reading} → Ends book r → r.verdict ≡ verdict.Refused why → StopsAt book why r.place
     go (refused {place} {sofar} x w e) q =
         let same : w ≡ why = cc in
-        record { sofar = sofar; reached = x; refuses = refuses-step book place sofar why (rw (e, same)) }
+        record { sofar = sofar; reached = x; refuses = refuses_step book place sofar why (rw (e, same)) }
     go (accepted x l u e) q = let z : ◌≡◌ {A = ℕ} 0 1 = cc in absurd (omega arith)
 
 pub stops_reading : (book : List ℕ) (why : Refusal) (place : ℕ) → StopsAt book why place → read_book book ≡ record { verdict = verdict.Refused why; place = place; table = empty_table }
-stops_reading book why place r = refused-reading r.reached why (step-refuses book place r.sofar why r.refuses)
+stops_reading book why place r = refused_reading r.reached why (step_refuses book place r.sofar why r.refuses)

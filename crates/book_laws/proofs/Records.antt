@@ -7,7 +7,7 @@ use native.Mathlib.Omega.{arith}
 use borrow.Author.Tests.{ltb-false}
 use lib.ListN.{length, get_or, take, drop}
 use lib.Seq.{drop-cons, take-add}
-use Rattle.records.specs.Step.{record_bytes, testRule, faultRule, responseRule, endRule, stepAt}
+use Rattle.records.specs.Step.{record_bytes, test_rule, fault_rule, response_rule, end_rule, step_at}
 use Rattle.records.specs.declared.Outcome.TheVariants.{Given}
 use Rattle.records.specs.declared.Record.{Record}
 use Rattle.records.specs.declared.Record.TheVariants.{Test, Fault, Response, End}
@@ -43,7 +43,7 @@ module _ (book : List ℕ) (place : ℕ) where
       rw (cons_at book place (omega arith), cons_at book (place + 1) (omega arith), q, cons_at book (place + 2) (omega arith), r, cons_at book (place + 3) (omega arith))
 
 pub given_bytes : {book : List ℕ} {place : ℕ} {sofar : SoFar} {s : Stepped} (g : Gives book place sofar s) → BytesAt book place (record_of g) s.place
-unfolding testRule faultRule responseRule endRule
+unfolding test_rule fault_rule response_rule end_rule
 given_bytes {book} {place} (test h k) =
     let l : place + 2 ≤ length book = omega (arith, ltb-false) in
     record { bytes = at₂ book place l ∙ rw h refl; further = refl; inside = l }
@@ -58,7 +58,7 @@ given_bytes {book} {place} (ending h k) =
     record { bytes = at₃ book place l ∙ rw h refl; further = refl; inside = l }
 
 pub given_record : {book : List ℕ} {place : ℕ} {sofar : SoFar} {s : Stepped} (g : Gives book place sofar s) → s.outcome ≡ Given (record_of g)
-unfolding testRule faultRule responseRule endRule
+unfolding test_rule fault_rule response_rule end_rule
 given_record (test h k) = refl
 given_record (fault h k) = refl
 given_record (response h k) = refl
@@ -69,7 +69,7 @@ pub taken_on : (book : List ℕ) (place : ℕ) (r : Record) (next : ℕ) → Byt
 taken_on book place r next b = rw b.further (take-add place (length (record_bytes r)) book ∙ ap (λ (x : List ℕ). take place book ++ x) b.bytes)
 
 -- the theorem, of a step
-pub record_there : (book : List ℕ) (place : ℕ) (sofar : SoFar) (r : Record) → (stepAt book place sofar).outcome ≡ Given r → BytesAt book place r (stepAt book place sofar).place
+pub record_there : (book : List ℕ) (place : ℕ) (sofar : SoFar) (r : Record) → (step_at book place sofar).outcome ≡ Given r → BytesAt book place r (step_at book place sofar).place
 record_there book place sofar r e = go (steps book place sofar) e
   where
     go : {s : Stepped} → Steps book place sofar s → s.outcome ≡ Given r → BytesAt book place r s.place

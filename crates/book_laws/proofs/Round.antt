@@ -14,12 +14,12 @@ use Rattle.folds.specs.Fold.{joined, every, always}
 use Rattle.folds.proofs.Below.{lt_or_ge, eq_or_ne, below_cases}
 use Rattle.folds.proofs.Bools.{both_false, clash}
 use Rattle.folds.proofs.Gather.{always_true}
-use Rattle.folds.proofs.Rows.{joined-run}
+use Rattle.folds.proofs.Rows.{joined_run}
 use Rattle.table.specs.Table.{empty_table, output_at, line_of, stuck_of}
 use Rattle.table.specs.WellFormed.{WellFormed}
 use Rattle.table.specs.declared.Table.{Table}
 use Rattle.table.proofs.Stored.{cell_here, cell_there, cells_same}
-use Rattle.book.specs.BookOf.{testBytes, faultBytes, responseBytes, answersWrong, responsesOf, bookOf}
+use Rattle.book.specs.BookOf.{test_bytes, fault_bytes, response_bytes, answers_wrong, responses_of, book_of}
 use Rattle.book.specs.Given.{begun}
 use Rattle.grow.specs.Grow.{with_test, with_fault, with_response, differs}
 use Rattle.book.specs.Sound.{order_of}
@@ -27,9 +27,9 @@ use Rattle.records.specs.Step.{record_bytes, rank_of, not_after}
 use Rattle.records.specs.declared.Record.TheVariants.{Test, Fault, Response, End}
 use Rattle.records.specs.declared.Stage.{Stage}
 use Rattle.records.specs.declared.Stage.TheVariants.{Tests, Faults, Responses, Ended}
-use Rattle.book_laws.proofs.Along.{Along, along, go_on, test-step, fault-step, response-step}
+use Rattle.book_laws.proofs.Along.{Along, along, go_on, test_step, fault_step, response_step}
 use Rattle.book_laws.proofs.Good.{reached_good}
-use Rattle.book_laws.proofs.Grown.{Long, filled_here, filled_there, label-new}
+use Rattle.book_laws.proofs.Grown.{Long, filled_here, filled_there, label_new}
 
 -- a table is its parts
 pub table_same : {u t : Table} → u.tests ≡ t.tests → u.faults ≡ t.faults → u.cells ≡ t.cells → u.lines ≡ t.lines → u.stuck ≡ t.stuck → u ≡ t
@@ -62,8 +62,8 @@ module _ (t : Table) (w : WellFormed t) (o : Long t) where
     faults : u.faults ≡ 0
     outputs : (i : ℕ) → i < k → output_at u i 0 ≡ output_at t i 0
 
-  more-tests : (k : ℕ) (u : Table) → Long u → k < 24 → After-tests k u → After-tests (k + 1) (with_test u (output_at t k 0))
-  more-tests k u n h a = record {
+  more_tests : (k : ℕ) (u : Table) → Long u → k < 24 → After-tests k u → After-tests (k + 1) (with_test u (output_at t k 0))
+  more_tests k u n h a = record {
     tests = rw a.tests;
     faults = a.faults;
     outputs = λ i l. ⊎_elim
@@ -89,25 +89,25 @@ module _ (t : Table) (w : WellFormed t) (o : Long t) where
     outputs = λ i c h l. let z : c ≡ 0 = omega arith in rw z (a.outputs i h);
   }
 
-  fresh-label : (k : ℕ) (u : Table) → k < t.faults → After-faults k u → every (differs u.lines u.stuck (line_of t k) (stuck_of t k)) u.faults ≡ true
-  fresh-label k u h a =
-      rw a.faults (label-new u.lines u.stuck _ _ k (λ f l p q. w.distinct k f l h (sym p ∙ a.lines f l) (sym q ∙ a.stuck f l)))
+  fresh_label : (k : ℕ) (u : Table) → k < t.faults → After-faults k u → every (differs u.lines u.stuck (line_of t k) (stuck_of t k)) u.faults ≡ true
+  fresh_label k u h a =
+      rw a.faults (label_new u.lines u.stuck _ _ k (λ f l p q. w.distinct k f l h (sym p ∙ a.lines f l) (sym q ∙ a.stuck f l)))
 
-  label-more : (xs ys : List ℕ) (k n : ℕ) → length xs ≡ 60 → k < 60 → n ≡ k → ((f : ℕ) → f < k → get_or xs f 0 ≡ get_or ys f 0) → (f : ℕ) → f < k + 1 → get_or (set xs n (get_or ys k 0)) f 0 ≡ get_or ys f 0
-  label-more xs ys k n l h e a f m = ⊎_elim
+  label_more : (xs ys : List ℕ) (k n : ℕ) → length xs ≡ 60 → k < 60 → n ≡ k → ((f : ℕ) → f < k → get_or xs f 0 ≡ get_or ys f 0) → (f : ℕ) → f < k + 1 → get_or (set xs n (get_or ys k 0)) f 0 ≡ get_or ys f 0
+  label_more xs ys k n l h e a f m = ⊎_elim
       (λ (b : f < k). get_or-set_other xs n f _ 0 (λ q. omega arith) ∙ a f b)
       (λ (b : f ≡ k). rw (b, e) (get_or-set_same xs k _ 0 (omega arith)))
       (below_cases f k (omega arith))
 
-  more-faults : (k : ℕ) (u : Table) → Long u → k < t.faults → After-faults k u → After-faults (k + 1) (with_fault u (line_of t k) (stuck_of t k))
-  more-faults k u n h a =
+  more_faults : (k : ℕ) (u : Table) → Long u → k < t.faults → After-faults k u → After-faults (k + 1) (with_fault u (line_of t k) (stuck_of t k))
+  more_faults k u n h a =
       let g = a.faults in
       let m = a.tests in
       record {
         tests = a.tests;
         faults = rw a.faults;
-        lines = label-more u.lines t.lines k u.faults n.lines (omega (arith, fews)) g a.lines;
-        stuck = label-more u.stuck t.stuck k u.faults n.stuck (omega (arith, fews)) g a.stuck;
+        lines = label_more u.lines t.lines k u.faults n.lines (omega (arith, fews)) g a.lines;
+        stuck = label_more u.stuck t.stuck k u.faults n.stuck (omega (arith, fews)) g a.stuck;
         outputs = λ i c l b. ⊎_elim
             (λ (x : c < k + 1). filled_there u.cells (u.faults + 1) u.tests i c (omega (arith, fews)) (omega (arith, few)) (omega (arith, few)) (omega (arith, fews)) (inr (λ e. omega arith)) ∙ a.outputs i c l (omega arith))
             (λ (x : c ≡ k + 1). rw (x, ← g) (filled_here u.cells (u.faults + 1) u.tests i n.cells (omega (arith, fews)) (omega (arith, few)) (omega arith)) ∙ a.outputs i 0 l (omega arith))
@@ -124,8 +124,8 @@ module _ (t : Table) (w : WellFormed t) (o : Long t) where
     given : (i f : ℕ) → i < t.tests → f < t.faults → order_of f i < n → output_at u i (f + 1) ≡ output_at t i (f + 1)
     correct : (i f : ℕ) → i < t.tests → f < t.faults → n ≤ order_of f i → output_at u i (f + 1) ≡ output_at t i 0
 
-  no-responses : (u : Table) → After-faults t.faults u → After-responses 0 u
-  no-responses u a = record {
+  no_responses : (u : Table) → After-faults t.faults u → After-responses 0 u
+  no_responses u a = record {
     tests = a.tests;
     faults = a.faults;
     lines = a.lines;
@@ -135,8 +135,8 @@ module _ (t : Table) (w : WellFormed t) (o : Long t) where
     correct = λ i f h l b. a.outputs i (f + 1) h (omega arith);
   }
 
-  more-responses : (i f : ℕ) (u : Table) → Long u → i < t.tests → f < t.faults → After-responses (order_of f i) u → After-responses (order_of f i + 1) (with_response u i f (output_at t i (f + 1)))
-  more-responses i f u n hi hf a = record {
+  more_responses : (i f : ℕ) (u : Table) → Long u → i < t.tests → f < t.faults → After-responses (order_of f i) u → After-responses (order_of f i + 1) (with_response u i f (output_at t i (f + 1)))
+  more_responses i f u n hi hf a = record {
     tests = a.tests;
     faults = a.faults;
     lines = a.lines;
@@ -172,9 +172,9 @@ module _ (t : Table) (w : WellFormed t) (o : Long t) where
 
   -- the table after all responses is the table
   module _ (n : ℕ) (u : Table) (wu : WellFormed u) (nu : Long u) (h : order_of t.faults 0 ≤ n) (a : After-responses n u) where
-    used-same : (i c : ℕ) → i < t.tests → c ≤ t.faults → output_at u i c ≡ output_at t i c
-    used-same i zero l m = a.healthy i l
-    used-same i (suc f) l m = rw (sym (add-one f)) (a.given i f l (omega arith) (omega (arith, few)))
+    used_same : (i c : ℕ) → i < t.tests → c ≤ t.faults → output_at u i c ≡ output_at t i c
+    used_same i zero l m = a.healthy i l
+    used_same i (suc f) l m = rw (sym (add-one f)) (a.given i f l (omega arith) (omega (arith, few)))
 
     all_same : (i c : ℕ) → i < 24 → c < 61 → output_at u i c ≡ output_at t i c
     all_same i c l m =
@@ -182,14 +182,14 @@ module _ (t : Table) (w : WellFormed t) (o : Long t) where
         let q = a.faults in
         ⊎_elim
         (λ (x : i < t.tests).
-        ⊎_elim (λ (y : c < t.faults + 1). used-same i c x (omega arith))
+        ⊎_elim (λ (y : c < t.faults + 1). used_same i c x (omega arith))
         (λ (y : t.faults + 1 ≤ c). wu.cells_clear i c l m (inr (omega arith)) ∙ sym (w.cells_clear i c l m (inr y)))
         (lt_or_ge c (t.faults + 1)))
         (λ (x : t.tests ≤ i). wu.cells_clear i c l m (inl (omega arith)) ∙ sym (w.cells_clear i c l m (inl x)))
         (lt_or_ge i t.tests)
 
-    after-all : u ≡ t
-    after-all =
+    after_all : u ≡ t
+    after_all =
         let q = a.faults in
         table_same a.tests a.faults (cells_same u.cells t.cells nu.cells o.cells all_same)
         (labels_same u.lines t.lines t.faults nu.lines o.lines a.lines (λ f x y. (wu.labels_clear f (omega arith) y).0) (λ f x y. (w.labels_clear f x y).0))
@@ -203,11 +203,11 @@ module _ (t : Table) (w : WellFormed t) (o : Long t) where
   Before (Responses g j) n = (order_of g j < n) × (j < 24)
   Before Ended n = ⊥
 
-  before-rank : (s : Stage) (n : ℕ) → Before s n → rank_of s ≤ 2
-  before-rank Tests n b = omega arith
-  before-rank Faults n b = omega arith
-  before-rank (Responses g j) n b = omega arith
-  before-rank Ended n b = absurd b
+  before_rank : (s : Stage) (n : ℕ) → Before s n → rank_of s ≤ 2
+  before_rank Tests n b = omega arith
+  before_rank Faults n b = omega arith
+  before_rank (Responses g j) n b = omega arith
+  before_rank Ended n b = absurd b
 
   before_more : (s : Stage) (n m : ℕ) → n ≤ m → Before s n → Before s m
   before_more Tests n m h b = tt
@@ -215,11 +215,11 @@ module _ (t : Table) (w : WellFormed t) (o : Long t) where
   before_more (Responses g j) n m h b = (omega (arith, b.0), b.1)
   before_more Ended n m h b = b
 
-  before-after : (s : Stage) (f i : ℕ) → i < 24 → Before s (order_of f i) → not_after s f i ≡ false
-  before-after Tests f i h b = refl
-  before-after Faults f i h b = refl
-  before-after Ended f i h b = absurd b
-  before-after (Responses g j) f i h b =
+  before_after : (s : Stage) (f i : ℕ) → i < 24 → Before s (order_of f i) → not_after s f i ≡ false
+  before_after Tests f i h b = refl
+  before_after Faults f i h b = refl
+  before_after Ended f i h b = absurd b
+  before_after (Responses g j) f i h b =
       rw (le-ltb f g (omega (arith, b.0, b.1)))
       (⊎_elim (λ (e : f ≡ g). rw (lt-leb i j (omega (arith, b.0))) (both_false (eqb f g))) (λ (ne : f ≡ g → ⊥). rw (ne_eqb f g ne)) (eq_or_ne f g))
 
@@ -235,49 +235,49 @@ module _ (t : Table) (w : WellFormed t) (o : Long t) where
   At-responses n s u = Before s n × After-responses n u
 
   module _ (book : List ℕ) where
-    long-at : {rest : List ℕ} {P : Stage → Table → Type 0} (a : Along book rest P) → Long a.table
-    long-at a = (reached_good a.reached).long
+    long_at : {rest : List ℕ} {P : Stage → Table → Type 0} (a : Along book rest P) → Long a.table
+    long_at a = (reached_good a.reached).long
 
-    tests-run : (rest : List ℕ) → Along book (joined always (testBytes t) t.tests ++ rest) (At-tests 0) → Along book rest (At-tests t.tests)
-    unfolding testBytes
-    tests-run rest a = joined-run always (testBytes t) t.tests (λ k rest. Along book rest (At-tests k)) step (λ k rest h e. clash _ (always_true k) e) rest a
+    tests_run : (rest : List ℕ) → Along book (joined always (test_bytes t) t.tests ++ rest) (At-tests 0) → Along book rest (At-tests t.tests)
+    unfolding test_bytes
+    tests_run rest a = joined_run always (test_bytes t) t.tests (λ k rest. Along book rest (At-tests k)) step (λ k rest h e. clash _ (always_true k) e) rest a
       where
         step : (k : ℕ) (rest : List ℕ) → k < t.tests → always k ≡ true → Along book (record_bytes (Test (output_at t k 0)) ++ rest) (At-tests k) → Along book rest (At-tests (k + 1))
         step k rest h e b =
             go_on (At-tests (k + 1)) (Test (output_at t k 0)) b (with_test b.table (output_at t k 0)) Tests
-            (test-step book b.place b.table b.stage _ (output_at t k 0) b.left b.holds.0 (omega (arith, b.holds.1.tests, few)))
-            (omega arith, more-tests k b.table (long-at b) (omega (arith, few)) b.holds.1)
+            (test_step book b.place b.table b.stage _ (output_at t k 0) b.left b.holds.0 (omega (arith, b.holds.1.tests, few)))
+            (omega arith, more_tests k b.table (long_at b) (omega (arith, few)) b.holds.1)
 
-    faults-run : (rest : List ℕ) → Along book (joined always (faultBytes t) t.faults ++ rest) (At-faults 0) → Along book rest (At-faults t.faults)
-    unfolding faultBytes
-    faults-run rest a = joined-run always (faultBytes t) t.faults (λ k rest. Along book rest (At-faults k)) step (λ k rest h e. clash _ (always_true k) e) rest a
+    faults_run : (rest : List ℕ) → Along book (joined always (fault_bytes t) t.faults ++ rest) (At-faults 0) → Along book rest (At-faults t.faults)
+    unfolding fault_bytes
+    faults_run rest a = joined_run always (fault_bytes t) t.faults (λ k rest. Along book rest (At-faults k)) step (λ k rest h e. clash _ (always_true k) e) rest a
       where
         step : (k : ℕ) (rest : List ℕ) → k < t.faults → always k ≡ true → Along book (record_bytes (Fault (line_of t k) (stuck_of t k)) ++ rest) (At-faults k) → Along book rest (At-faults (k + 1))
         step k rest h e b =
             go_on (At-faults (k + 1)) (Fault (line_of t k) (stuck_of t k)) b (with_fault b.table (line_of t k) (stuck_of t k)) Faults
-            (fault-step book b.place b.table b.stage _ (line_of t k) (stuck_of t k) b.left b.holds.0 (omega (arith, b.holds.1.faults, fews)) (w.stuck_fit k h) (fresh-label k b.table h b.holds.1))
-            (omega arith, more-faults k b.table (long-at b) h b.holds.1)
+            (fault_step book b.place b.table b.stage _ (line_of t k) (stuck_of t k) b.left b.holds.0 (omega (arith, b.holds.1.faults, fews)) (w.stuck_fit k h) (fresh_label k b.table h b.holds.1))
+            (omega arith, more_faults k b.table (long_at b) h b.holds.1)
 
     -- nothing is written between two places
     pass : {rest : List ℕ} (n m : ℕ) → n ≤ m → ((i f : ℕ) → i < t.tests → f < t.faults → n ≤ order_of f i → order_of f i < m → output_at t i 0 ≡ output_at t i (f + 1))
         → Along book rest (At-responses n) → Along book rest (At-responses m)
     pass n m l same a = along (At-responses m) a (before_more a.stage n m l a.holds.0, later n m a.table l same a.holds.1)
 
-    row-run : (f : ℕ) (rest : List ℕ) → f < t.faults → Along book (joined (answersWrong t f) (responseBytes t f) t.tests ++ rest) (At-responses (order_of f 0)) → Along book rest (At-responses (order_of f t.tests))
-    unfolding answersWrong responseBytes
-    row-run f rest hf a = joined-run (answersWrong t f) (responseBytes t f) t.tests (λ i rest. Along book rest (At-responses (order_of f i))) took passed rest a
+    row_run : (f : ℕ) (rest : List ℕ) → f < t.faults → Along book (joined (answers_wrong t f) (response_bytes t f) t.tests ++ rest) (At-responses (order_of f 0)) → Along book rest (At-responses (order_of f t.tests))
+    unfolding answers_wrong response_bytes
+    row_run f rest hf a = joined_run (answers_wrong t f) (response_bytes t f) t.tests (λ i rest. Along book rest (At-responses (order_of f i))) took passed rest a
       where
-        took : (i : ℕ) (rest : List ℕ) → i < t.tests → answersWrong t f i ≡ true → Along book (record_bytes (Response i f (output_at t i (f + 1))) ++ rest) (At-responses (order_of f i)) → Along book rest (At-responses (order_of f (i + 1)))
+        took : (i : ℕ) (rest : List ℕ) → i < t.tests → answers_wrong t f i ≡ true → Along book (record_bytes (Response i f (output_at t i (f + 1))) ++ rest) (At-responses (order_of f i)) → Along book rest (At-responses (order_of f (i + 1)))
         took i rest hi x b =
             let c = b.holds.1 in
             let ne : output_at t i 0 ≡ output_at t i (f + 1) → ⊥ = eqb-false _ _ (not-true (eqb (output_at t i 0) (output_at t i (f + 1))) x) in
             let next : order_of f i + 1 ≡ order_of f (i + 1) = omega arith in
             go_on (At-responses (order_of f (i + 1))) (Response i f (output_at t i (f + 1))) b (with_response b.table i f (output_at t i (f + 1))) (Responses f i)
-            (response-step book b.place b.table b.stage _ i f (output_at t i (f + 1)) b.left (before-rank b.stage _ b.holds.0) (omega (arith, hi, c.tests)) (omega (arith, hf, c.faults))
-            (before-after b.stage f i (omega (arith, hi, few)) b.holds.0) (λ z. ne (sym (c.healthy i hi) ∙ z)))
-            ((omega arith, omega (arith, hi, few)), rw next at (more-responses i f b.table (long-at b) hi hf c))
+            (response_step book b.place b.table b.stage _ i f (output_at t i (f + 1)) b.left (before_rank b.stage _ b.holds.0) (omega (arith, hi, c.tests)) (omega (arith, hf, c.faults))
+            (before_after b.stage f i (omega (arith, hi, few)) b.holds.0) (λ z. ne (sym (c.healthy i hi) ∙ z)))
+            ((omega arith, omega (arith, hi, few)), rw next at (more_responses i f b.table (long_at b) hi hf c))
 
-        passed : (i : ℕ) (rest : List ℕ) → i < t.tests → answersWrong t f i ≡ false → Along book rest (At-responses (order_of f i)) → Along book rest (At-responses (order_of f (i + 1)))
+        passed : (i : ℕ) (rest : List ℕ) → i < t.tests → answers_wrong t f i ≡ false → Along book rest (At-responses (order_of f i)) → Along book rest (At-responses (order_of f (i + 1)))
         passed i rest hi x b =
             let same = eqb-true _ _ (not-false (eqb (output_at t i 0) (output_at t i (f + 1))) x) in
             pass (order_of f i) (order_of f (i + 1)) (omega arith)
@@ -287,19 +287,19 @@ module _ (t : Table) (w : WellFormed t) (o : Long t) where
             rw (p, q) same)
             b
 
-    responses-run : (rest : List ℕ) → Along book (joined always (responsesOf t) t.faults ++ rest) (At-responses (order_of 0 0)) → Along book rest (At-responses (order_of t.faults 0))
-    unfolding responsesOf
-    responses-run rest a = joined-run always (responsesOf t) t.faults (λ f rest. Along book rest (At-responses (order_of f 0))) step (λ f rest h e. clash _ (always_true f) e) rest a
+    responses_run : (rest : List ℕ) → Along book (joined always (responses_of t) t.faults ++ rest) (At-responses (order_of 0 0)) → Along book rest (At-responses (order_of t.faults 0))
+    unfolding responses_of
+    responses_run rest a = joined_run always (responses_of t) t.faults (λ f rest. Along book rest (At-responses (order_of f 0))) step (λ f rest h e. clash _ (always_true f) e) rest a
       where
-        step : (f : ℕ) (rest : List ℕ) → f < t.faults → always f ≡ true → Along book (responsesOf t f ++ rest) (At-responses (order_of f 0)) → Along book rest (At-responses (order_of (f + 1) 0))
+        step : (f : ℕ) (rest : List ℕ) → f < t.faults → always f ≡ true → Along book (responses_of t f ++ rest) (At-responses (order_of f 0)) → Along book rest (At-responses (order_of (f + 1) 0))
         step f rest h e b =
-            pass (order_of f t.tests) (order_of (f + 1) 0) (omega (arith, few)) (λ i g h k x y. absurd (omega (arith, few))) (row-run f rest h b)
+            pass (order_of f t.tests) (order_of (f + 1) 0) (omega (arith, few)) (λ i g h k x y. absurd (omega (arith, few))) (row_run f rest h b)
 
   -- ---- the whole book
 
-  at-start : Along (bookOf t) (bookOf t) (At-tests 0)
+  at_start : Along (book_of t) (book_of t) (At-tests 0)
   unfolding empty_table
-  at-start = record {
+  at_start = record {
     place = 0;
     table = empty_table;
     stage = Tests;
@@ -317,21 +317,21 @@ module _ (t : Table) (w : WellFormed t) (o : Long t) where
   abbrev pub At-end : Stage → Table → Type 0
   At-end s u = (u ≡ t) × (rank_of s ≤ 2)
 
-  whole : {rest : List ℕ} → Along (bookOf t) rest (At-responses (order_of t.faults 0)) → Along (bookOf t) rest At-end
+  whole : {rest : List ℕ} → Along (book_of t) rest (At-responses (order_of t.faults 0)) → Along (book_of t) rest At-end
   whole a =
       let g = reached_good a.reached in
-      along At-end a (after-all (order_of t.faults 0) a.table g.formed g.long (omega arith) a.holds.1, before-rank a.stage (order_of t.faults 0) a.holds.0)
+      along At-end a (after_all (order_of t.faults 0) a.table g.formed g.long (omega arith) a.holds.1, before_rank a.stage (order_of t.faults 0) a.holds.0)
 
-  from-faults : {rest : List ℕ} → Along (bookOf t) rest (At-tests t.tests) → Along (bookOf t) rest (At-faults 0)
-  from-faults a = along (At-faults 0) a (omega (arith, a.holds.0), no_faults a.table a.holds.1)
+  from_faults : {rest : List ℕ} → Along (book_of t) rest (At-tests t.tests) → Along (book_of t) rest (At-faults 0)
+  from_faults a = along (At-faults 0) a (omega (arith, a.holds.0), no_faults a.table a.holds.1)
 
-  from-responses : {rest : List ℕ} → Along (bookOf t) rest (At-faults t.faults) → Along (bookOf t) rest (At-responses 0)
-  from-responses a = along (At-responses 0) a (low a.stage a.holds.0, no-responses a.table a.holds.1)
+  from_responses : {rest : List ℕ} → Along (book_of t) rest (At-faults t.faults) → Along (book_of t) rest (At-responses 0)
+  from_responses a = along (At-responses 0) a (low a.stage a.holds.0, no_responses a.table a.holds.1)
 
   -- the table's book leads to its end record, with the whole table
-  pub run : Along (bookOf t) (record_bytes (End t.tests t.faults)) At-end
-  unfolding bookOf
+  pub run : Along (book_of t) (record_bytes (End t.tests t.faults)) At-end
+  unfolding book_of
   run =
-      whole (responses-run (bookOf t) _
-      (from-responses (faults-run (bookOf t) _
-      (from-faults (tests-run (bookOf t) _ at-start)))))
+      whole (responses_run (book_of t) _
+      (from_responses (faults_run (book_of t) _
+      (from_faults (tests_run (book_of t) _ at_start)))))

@@ -14,10 +14,10 @@ use Rattle.folds.proofs.Below.{lt_or_ge}
 use Rattle.table.specs.declared.Reading.{Reading}
 use Rattle.book.specs.Given.{Reached, begun, read}
 use Rattle.book.specs.Reading.{read_book}
-use Rattle.records.specs.Step.{rank_of, testRule, faultRule, responseRule, endRule, unknownRule, edgeRule, kindRule, ruleAt, stepAt}
+use Rattle.records.specs.Step.{rank_of, test_rule, fault_rule, response_rule, end_rule, unknown_rule, edge_rule, kind_rule, rule_at, step_at}
 use Rattle.records.specs.declared.SoFar.{SoFar}
 use Rattle.book_laws.proofs.Good.{Good, reached_good, open_place, any_place}
-use Rattle.book_laws.proofs.Readings.{Ends, refused, accepted, ends, refused-reading, accepted-reading}
+use Rattle.book_laws.proofs.Readings.{Ends, refused, accepted, ends, refused_reading, accepted_reading}
 
 module _ (a b : List ℕ) (same : take 5992 a ≡ take 5992 b) where
   byte : (k : ℕ) → k < 5992 → get_or a k 0 ≡ get_or b k 0
@@ -50,39 +50,39 @@ module _ (a b : List ℕ) (same : take 5992 a ≡ take 5992 b) where
 
   -- a record whose bytes are among them is judged the same
   module _ (place : ℕ) (sofar : SoFar) (h : place + 4 ≤ 5992) where
-    kind-same : kindRule a place sofar (get_or a place 0) ≡ kindRule b place sofar (get_or b place 0)
-    unfolding kindRule testRule faultRule responseRule endRule unknownRule
-    kind-same =
+    kind_same : kind_rule a place sofar (get_or a place 0) ≡ kind_rule b place sofar (get_or b place 0)
+    unfolding kind_rule test_rule fault_rule response_rule end_rule unknown_rule
+    kind_same =
         rw (byte place (omega arith), byte (place + 1) (omega arith), byte (place + 2) (omega arith), byte (place + 3) (omega arith), cut (place + 2) (omega arith), cut (place + 3) (omega arith), cut (place + 4) (omega arith))
 
-  rule-same : (place : ℕ) (sofar : SoFar) → Good a place sofar → ruleAt a place sofar ≡ ruleAt b place sofar
-  unfolding ruleAt edgeRule
-  rule-same place sofar g =
+  rule_same : (place : ℕ) (sofar : SoFar) → Good a place sofar → rule_at a place sofar ≡ rule_at b place sofar
+  unfolding rule_at edge_rule
+  rule_same place sofar g =
       let l = any_place g in
       rw (over place (omega arith), follows place (omega arith)) (go (leb (length b) place) (eqb (rank_of sofar.stage) 3) refl)
     where
-      go : (x y : Bool) → eqb (rank_of sofar.stage) 3 ≡ y → pick (either x y) (edgeRule b place sofar) (kindRule a place sofar (get_or a place 0)) ≡ pick (either x y) (edgeRule b place sofar) (kindRule b place sofar (get_or b place 0))
+      go : (x y : Bool) → eqb (rank_of sofar.stage) 3 ≡ y → pick (either x y) (edge_rule b place sofar) (kind_rule a place sofar (get_or a place 0)) ≡ pick (either x y) (edge_rule b place sofar) (kind_rule b place sofar (get_or b place 0))
       go true y u = refl
       go false true u = refl
-      go false false u = kind-same place sofar (omega (arith, open_place g u))
+      go false false u = kind_same place sofar (omega (arith, open_place g u))
 
-  step_same : {place : ℕ} {sofar : SoFar} → Reached a place sofar → stepAt a place sofar ≡ stepAt b place sofar
-  unfolding stepAt
-  step_same {place} {sofar} x = rw (rule-same place sofar (reached_good x))
+  step_same : {place : ℕ} {sofar : SoFar} → Reached a place sofar → step_at a place sofar ≡ step_at b place sofar
+  unfolding step_at
+  step_same {place} {sofar} x = rw (rule_same place sofar (reached_good x))
 
-  reached-same : {place : ℕ} {sofar : SoFar} → Reached a place sofar → Reached b place sofar
-  reached-same begun = begun
-  reached-same (read {place} {sofar} x r e) =
+  reached_same : {place : ℕ} {sofar : SoFar} → Reached a place sofar → Reached b place sofar
+  reached_same begun = begun
+  reached_same (read {place} {sofar} x r e) =
       let q = step_same x in
-      rw q (read (reached-same x) r (rw q at e))
+      rw q (read (reached_same x) r (rw q at e))
 
   -- "the first 5,992 bytes of any input settle the reader's answer"
   pub settles : read_book a ≡ read_book b
   settles = go (ends a)
     where
       go : {r : Reading} → Ends a r → r ≡ read_book b
-      go (refused x why e) = sym (refused-reading (reached-same x) why (sym (step_same x) ∙ e))
-      go (accepted x l u e) = sym (accepted-reading (reached-same x) (sym (step_same x) ∙ e))
+      go (refused x why e) = sym (refused_reading (reached_same x) why (sym (step_same x) ∙ e))
+      go (accepted x l u e) = sym (accepted_reading (reached_same x) (sym (step_same x) ∙ e))
 
 -- every place that a reading gives is in the book, and at most 5,991
 pub place_most : (book : List ℕ) → ((read_book book).place ≤ 5991) × ((read_book book).place ≤ length book)

@@ -9,7 +9,7 @@ use Rattle.table.specs.Test.{well_formed}
 use Rattle.table.specs.WellFormed.{WellFormed, OfType}
 use Rattle.table.specs.declared.Table.{Table}
 use Rattle.table.proofs.Formed.{formed, tested}
-use Rattle.book.specs.BookOf.{bookOf}
+use Rattle.book.specs.BookOf.{book_of}
 use Rattle.book.specs.Given.{Reached, SomeStart}
 use Rattle.book.specs.Sound.{sound_test}
 use Rattle.records.specs.Step.{rank_of}
@@ -18,7 +18,7 @@ use Rattle.records.specs.declared.Stage.{Stage}
 use Rattle.records.specs.declared.Stage.TheVariants.{Tests, Faults, Responses, Ended}
 use Rattle.book_laws.proofs.Accepted.{past_end}
 use Rattle.book_laws.proofs.Along.{so, Along}
-use Rattle.book_laws.proofs.Bytes.{book-bytes}
+use Rattle.book_laws.proofs.Bytes.{book_bytes}
 use Rattle.book_laws.proofs.Good.{reached_good}
 use Rattle.book_laws.proofs.Grown.{long_of}
 use Rattle.book_laws.proofs.Round.{run}
@@ -38,24 +38,24 @@ start_sound sofar (book, place, b, x) = reached_sound x
 -- ---- what passes the test is given by a start of its own table's book
 
 module _ (tb : Table) (o : OfType tb) (w : WellFormed tb) where
-  before-end : (s : Stage) → rank_of s ≤ 2 → Fits s tb → (k : ℕ) × Reached (bookOf tb) k (so tb s)
-  before-end s h f = go (run tb w (long_of o))
+  before_end : (s : Stage) → rank_of s ≤ 2 → Fits s tb → (k : ℕ) × Reached (book_of tb) k (so tb s)
+  before_end s h f = go (run tb w (long_of o))
     where
-      go : {rest : List ℕ} → Along (bookOf tb) rest (λ s u. (u ≡ tb) × (rank_of s ≤ 2)) → (k : ℕ) × Reached (bookOf tb) k (so tb s)
+      go : {rest : List ℕ} → Along (book_of tb) rest (λ s u. (u ≡ tb) × (rank_of s ≤ 2)) → (k : ℕ) × Reached (book_of tb) k (so tb s)
       go a =
-          let x : Reached (bookOf tb) a.place (so tb a.stage) = rw a.holds.0 at a.reached in
+          let x : Reached (book_of tb) a.place (so tb a.stage) = rw a.holds.0 at a.reached in
           (a.place, rw (one_stage a.stage s tb w.tests_fit a.holds.1 h (reached_good x).fits f) at x)
 
-  by-stage : (s : Stage) → Fits s tb → (k : ℕ) × Reached (bookOf tb) k (so tb s)
-  by-stage Tests f = before-end Tests (omega arith) f
-  by-stage Faults f = before-end Faults (omega arith) f
-  by-stage (Responses g t) f = before-end (Responses g t) (omega arith) f
-  by-stage Ended f = let a = past_end tb w (long_of o) in (a.place, rw (a.holds.0, a.holds.1) at a.reached)
+  by_stage : (s : Stage) → Fits s tb → (k : ℕ) × Reached (book_of tb) k (so tb s)
+  by_stage Tests f = before_end Tests (omega arith) f
+  by_stage Faults f = before_end Faults (omega arith) f
+  by_stage (Responses g t) f = before_end (Responses g t) (omega arith) f
+  by_stage Ended f = let a = past_end tb w (long_of o) in (a.place, rw (a.holds.0, a.holds.1) at a.reached)
 
 pub sound_start : (sofar : SoFar) → OfType sofar.table → sound_test sofar ≡ true → SomeStart sofar
 unfolding sound_test
 sound_start sofar o h =
     let w = formed sofar.table (both_left _ _ h) in
     let f = tested_fits sofar.stage sofar.table (both_right (well_formed sofar.table) _ h) in
-    let x = by-stage sofar.table o w sofar.stage f in
-    (bookOf sofar.table, x.0, book-bytes sofar.table w o, x.1)
+    let x = by_stage sofar.table o w sofar.stage f in
+    (book_of sofar.table, x.0, book_bytes sofar.table w o, x.1)

@@ -4,7 +4,7 @@ use Rattle.std.specs.Prelude.{List, ◌≡◌, ℕ, length}
 use Rattle.table.specs.WellFormed.{WellFormed, OfType}
 use Rattle.table.specs.declared.Table.{Table}
 use Rattle.table.specs.declared.Verdict.TheVariants.{Accepted}
-use Rattle.book.specs.BookOf.{bookOf}
+use Rattle.book.specs.BookOf.{book_of}
 use Rattle.book.specs.Reading.{read_book}
 
 -- "An accepted reading gives number 0, the book's length as place, and the table."
@@ -15,4 +15,4 @@ Accepts book tb = read_book book ≡ record { verdict = Accepted; place = length
 pub record BookOfTable (book : List ℕ) (tb : Table) : Type 0 where
   pub typed : OfType tb
   pub formed : WellFormed tb
-  pub is : book ≡ bookOf tb
+  pub is : book ≡ book_of tb

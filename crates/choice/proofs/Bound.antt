@@ -11,7 +11,7 @@ use Rattle.folds.proofs.Below.{lt_or_ge}
 use Rattle.sets.specs.Sets.{bit, weight}
 use Rattle.sets.proofs.Bits.{from_out, from_in, bit_low, bit_high, bit_zero, bit_below}
 use Rattle.sets.proofs.Shared.{bit-bit_and, bit-bit_or, shares_not}
-use Rattle.sets.proofs.Weight.{weight-two, weight-more}
+use Rattle.sets.proofs.Weight.{weight_two, weight_more}
 use Rattle.choice.specs.Search.{Open, RestOf, OneMore, NeedsMore}
 
 -- the kept tests from t on
@@ -29,21 +29,21 @@ module _ (w : ℕ → ℕ) (masks : List ℕ) (keep t chosen : ℕ) (decided : c
   pub covered_none : Covered w masks keep t chosen 0 0
   covered_none = record { low = λ i l. bit_zero i; all = λ limit s o. omega arith }
 
-  pub covered-needs : (taken n : ℕ) → Covered w masks keep t chosen taken n → NeedsMore w masks keep t chosen n
-  covered-needs taken n c limit s o =
+  pub covered_needs : (taken n : ℕ) → Covered w masks keep t chosen taken n → NeedsMore w masks keep t chosen n
+  covered_needs taken n c limit s o =
       omega (
         arith,
         c.all limit s o,
-        weight-two w chosen (bit_and s taken) s (λ i. ⊎_elim
+        weight_two w chosen (bit_and s taken) s (λ i. ⊎_elim
             (λ l. omega (arith, bit_low s t i l, ap (λ (x : ℕ). bit x i) o.agrees, bit-bit_and s taken i, c.low i l))
             (λ l. omega (arith, bit_high chosen t i decided l, bit-bit_and s taken i)) (lt_or_ge i t)),
       )
 
   module _ (rest : ℕ) (r : RestOf keep t rest) (k : ℕ) (l : k < length masks) where
     -- the test that an open set shares with a mask that is not hit is among those left
-    left-test : (limit s : ℕ) → Open w masks keep t chosen limit s → bit_and (get_or masks k 0) chosen ≡ 0
+    left_test : (limit s : ℕ) → Open w masks keep t chosen limit s → bit_and (get_or masks k 0) chosen ≡ 0
         → (j : ℕ) × (j < 24) × (bit s j ≡ 1) × (bit (bit_and (get_or masks k 0) rest) j ≡ 1)
-    left-test limit s o e =
+    left_test limit s o e =
         let h = o.hits k l in
         let j = h.0 in
         ⊎_elim
@@ -58,14 +58,14 @@ module _ (w : ℕ → ℕ) (masks : List ℕ) (keep t chosen : ℕ) (decided : c
       low = λ i m. omega (arith, bit-bit_or (bit_and (get_or masks k 0) rest) taken i, bit-bit_and (get_or masks k 0) rest i, r.low i m, c.low i m);
       all = λ limit s o.
           let new = bit_and (get_or masks k 0) rest in
-          let h = left-test limit s o e.0 in
+          let h = left_test limit s o e.0 in
           let j = h.0 in
           let z : bit taken j ≡ 0 = omega (arith, bit-bit_and new taken j, ap (λ (x : ℕ). bit x j) e.1, bit_zero j, h.3) in
           omega (
             arith,
             c.all limit s o,
             positive j,
-            weight-more w (bit_and s taken) (bit_and s (bit_or new taken)) j h.1
+            weight_more w (bit_and s taken) (bit_and s (bit_or new taken)) j h.1
                 (λ i. omega (arith, bit-bit_and s taken i, bit-bit_and s (bit_or new taken) i, bit-bit_or new taken i))
                 (omega (arith, bit-bit_and s taken j))
                 (omega (arith, bit-bit_and s (bit_or new taken) j, bit-bit_or new taken j, h.2, h.3)),

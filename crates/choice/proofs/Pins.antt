@@ -42,14 +42,14 @@ module _ (tb : Table) (goal : Goal) (cap : ℕ) where
   same why₁ why₂ (inr (inr (e, w, m, none))) (inr (inl (e', w', m'))) = absurd (omega arith)
   same why₁ why₂ (inr (inr (e, w, m, none))) (inr (inr (e', w', m', none'))) = e ∙ sym e'
 
-  pub choose-pins : (r₁ r₂ : Chosen) → ChoiceIs tb goal cap r₁ → ChoiceIs tb goal cap r₂ → r₁ ≡ r₂
-  choose-pins (Tests s₁) (Tests s₂) a b = ap Tests (choice_one tb goal (TestOf tb) s₁ s₂ a.2 b.2)
-  choose-pins (Tests s₁) (Refused why₂) a b = absurd (apart s₁ why₂ a b)
-  choose-pins (Refused why₁) (Tests s₂) a b = absurd (apart s₂ why₁ b a)
-  choose-pins (Refused why₁) (Refused why₂) a b = ap Refused (number_one why₁ why₂ (same why₁ why₂ a b))
+  pub choose_pins : (r₁ r₂ : Chosen) → ChoiceIs tb goal cap r₁ → ChoiceIs tb goal cap r₂ → r₁ ≡ r₂
+  choose_pins (Tests s₁) (Tests s₂) a b = ap Tests (choice_one tb goal (TestOf tb) s₁ s₂ a.2 b.2)
+  choose_pins (Tests s₁) (Refused why₂) a b = absurd (apart s₁ why₂ a b)
+  choose_pins (Refused why₁) (Tests s₂) a b = absurd (apart s₂ why₁ b a)
+  choose_pins (Refused why₁) (Refused why₂) a b = ap Refused (number_one why₁ why₂ (same why₁ why₂ a b))
 
-  pub choose-answers : (r : Chosen) × ChoiceIs tb goal cap r
-  choose-answers = go (well_formed tb) refl
+  pub choose_answers : (r : Chosen) × ChoiceIs tb goal cap r
+  choose_answers = go (well_formed tb) refl
     where
       go : (b : Bool) → well_formed tb ≡ b → (r : Chosen) × ChoiceIs tb goal cap r
       go false e = (Refused NotWellFormed, inl (refl, λ w. clash _ (tested tb w) e))

@@ -24,9 +24,9 @@ module _ (xs : List ℕ) (i j : ℕ) (in-i : i < length xs) (in-j : j < length x
   swapped : List ℕ
   swapped = set (set xs i (get_or xs j 0)) j (get_or xs i 0)
 
-  swap-long : length swapped ≡ length xs
+  swap_long : length swapped ≡ length xs
   unfolding swapped
-  swap-long = simp length-set
+  swap_long = simp length-set
 
   at_j : get_or swapped j 0 ≡ get_or xs i 0
   unfolding swapped
@@ -59,15 +59,15 @@ module _ (xs : List ℕ) (i j : ℕ) (in-i : i < length xs) (in-j : j < length x
       (eq_or_ne k j))
       (eq_or_ne k i)
 
-  order-swap : Reordered xs (set (set xs i (get_or xs j 0)) j (get_or xs i 0))
+  order_swap : Reordered xs (set (set xs i (get_or xs j 0)) j (get_or xs i 0))
   unfolding swapped
-  order-swap = record {
-    long = swap-long;
-    hits = λ s h k l. let c = came k (omega (arith, swap-long)) in subst (λ (m : ℕ). Shares m s) (sym c.2) (h c.0 c.1);
-    hit = λ s h k l. let w = went k l in subst (λ (m : ℕ). Shares m s) (sym w.2) (h w.0 (omega (arith, swap-long, w.1)));
+  order_swap = record {
+    long = swap_long;
+    hits = λ s h k l. let c = came k (omega (arith, swap_long)) in subst (λ (m : ℕ). Shares m s) (sym c.2) (h c.0 c.1);
+    hit = λ s h k l. let w = went k l in subst (λ (m : ℕ). Shares m s) (sym w.2) (h w.0 (omega (arith, swap_long, w.1)));
   }
 
 -- ---- the loops
 
 pub order_swapped : (xs ys zs : List ℕ) (i j : ℕ) → Reordered xs ys → i < length ys → j < length ys → zs ≡ set (set ys i (get_or ys j 0)) j (get_or ys i 0) → Reordered xs zs
-order_swapped xs ys zs i j h a b e = order_then xs ys zs h (rw e (order-swap ys i j a b))
+order_swapped xs ys zs i j h a b e = order_then xs ys zs h (rw e (order_swap ys i j a b))

@@ -12,36 +12,36 @@ use lib.Pow.{pow_mono, pow_pos}
 use Rattle.folds.proofs.Below.{lt_or_ge}
 use Rattle.sets.specs.Sets.{bit, weight, Before, Shares}
 use Rattle.sets.proofs.Bits.{bit_cases, mod_in, mod_out, bit_low, bit_high, bit_below, top_lt, top_below}
-use Rattle.sets.proofs.Order.{precedes-weight}
-use Rattle.sets.proofs.Weight.{weight-top}
+use Rattle.sets.proofs.Order.{precedes_weight}
+use Rattle.sets.proofs.Weight.{weight_top}
 use Rattle.sets.proofs.Shared.{shares, shares_not}
 use Rattle.choice.specs.declared.search.Found.{Found}
 use Rattle.choice.specs.declared.search.Found.TheVariants.{Set, Nothing}
 use Rattle.choice.specs.Search.{FirstUnhit, Node, Open, NeedsMore, Best, limit_after, or_else}
-use Rattle.choice.proofs.Weights.{agreed-weight, agreed-same}
+use Rattle.choice.proofs.Weights.{agreed_weight, agreed_same}
 
 -- two sets that agree below t, with t in the first alone
 before_at : (s s' t : ℕ) → s % 2 ^ t ≡ s' % 2 ^ t → bit s t ≡ 1 → bit s' t ≡ 0 → Before s s'
 before_at s s' t e a b = (t, a, b, λ j l. sym (bit_low s t j l) ∙ ap (λ (x : ℕ). bit x j) e ∙ bit_low s' t j l)
 
 module _ (w : ℕ → ℕ) (masks : List ℕ) (keep t chosen : ℕ) where
-  open-limit : (limit limit' s : ℕ) → Open w masks keep t chosen limit s → weight w s < limit' → Open w masks keep t chosen limit' s
-  open-limit limit limit' s o l = record { below = o.below; agrees = o.agrees; keeps = o.keeps; hits = o.hits; light = l }
+  open_limit : (limit limit' s : ℕ) → Open w masks keep t chosen limit s → weight w s < limit' → Open w masks keep t chosen limit' s
+  open_limit limit limit' s o l = record { below = o.below; agrees = o.agrees; keeps = o.keeps; hits = o.hits; light = l }
 
   -- what is best below a limit is best below a higher one: an open set that is not below the first limit is heavier
-  best-raised : (limit limit' s n : ℕ) → limit ≤ limit' → Best w masks keep t chosen limit (Set s n) → Best w masks keep t chosen limit' (Set s n)
-  best-raised limit limit' s n l b = (
-    open-limit limit limit' s b.0 (omega (arith, b.0.light)),
+  best_raised : (limit limit' s n : ℕ) → limit ≤ limit' → Best w masks keep t chosen limit (Set s n) → Best w masks keep t chosen limit' (Set s n)
+  best_raised limit limit' s n l b = (
+    open_limit limit limit' s b.0 (omega (arith, b.0.light)),
     b.1,
-    λ s' o. ⊎_elim (λ h. b.2 s' (open-limit limit' limit s' o h)) (λ h. inl (omega (arith, b.0.light))) (lt_or_ge (weight w s') limit),
+    λ s' o. ⊎_elim (λ h. b.2 s' (open_limit limit' limit s' o h)) (λ h. inl (omega (arith, b.0.light))) (lt_or_ge (weight w s') limit),
   )
 
   -- the same for the set as the code has it
-  pub best-found : (limit limit' s n : ℕ) (r : Found) → r ≡ Set s n → limit ≤ limit' → Best w masks keep t chosen limit r → Best w masks keep t chosen limit' r
-  best-found limit limit' s n r e l b = rw e (best-raised limit limit' s n l (rw e at b))
+  pub best_found : (limit limit' s n : ℕ) (r : Found) → r ≡ Set s n → limit ≤ limit' → Best w masks keep t chosen limit r → Best w masks keep t chosen limit' r
+  best_found limit limit' s n r e l b = rw e (best_raised limit limit' s n l (rw e at b))
 
-  open-in-down : (limit s : ℕ) → bit s t ≡ 1 → Open w masks keep t chosen limit s → Open w masks keep (t + 1) (chosen + 2 ^ t) limit s
-  open-in-down limit s e o = record {
+  open_in_down : (limit s : ℕ) → bit s t ≡ 1 → Open w masks keep t chosen limit s → Open w masks keep (t + 1) (chosen + 2 ^ t) limit s
+  open_in_down limit s e o = record {
     below = o.below;
     agrees = rw add-one (omega (arith, mod_in s t e, o.agrees));
     keeps = λ i l. o.keeps i (omega arith);
@@ -49,8 +49,8 @@ module _ (w : ℕ → ℕ) (masks : List ℕ) (keep t chosen : ℕ) where
     light = o.light;
   }
 
-  open-out-down : (limit s : ℕ) → bit s t ≡ 0 → Open w masks keep t chosen limit s → Open w masks keep (t + 1) chosen limit s
-  open-out-down limit s e o = record {
+  open_out_down : (limit s : ℕ) → bit s t ≡ 0 → Open w masks keep t chosen limit s → Open w masks keep (t + 1) chosen limit s
+  open_out_down limit s e o = record {
     below = o.below;
     agrees = rw add-one (mod_out s t e ∙ o.agrees);
     keeps = λ i l. o.keeps i (omega arith);
@@ -59,78 +59,78 @@ module _ (w : ℕ → ℕ) (masks : List ℕ) (keep t chosen : ℕ) where
   }
 
   module _ (low : chosen < 2 ^ t) where
-    in-agrees : (s : ℕ) → s % 2 ^ (t + 1) ≡ chosen + 2 ^ t → (bit s t ≡ 1) × (s % 2 ^ t ≡ chosen)
-    in-agrees s h =
+    in_agrees : (s : ℕ) → s % 2 ^ (t + 1) ≡ chosen + 2 ^ t → (bit s t ≡ 1) × (s % 2 ^ t ≡ chosen)
+    in_agrees s h =
         let g : s % 2 ^ suc t ≡ chosen + 2 ^ t = rw add-one at h in
         ⊎_elim (λ e. absurd (omega (arith, mod_out s t e, mod-lt s (pow_pos t)))) (λ e. (e, omega (arith, mod_in s t e))) (bit_cases s t)
 
-    out-agrees : (s : ℕ) → s % 2 ^ (t + 1) ≡ chosen → (bit s t ≡ 0) × (s % 2 ^ t ≡ chosen)
-    out-agrees s h =
+    out_agrees : (s : ℕ) → s % 2 ^ (t + 1) ≡ chosen → (bit s t ≡ 0) × (s % 2 ^ t ≡ chosen)
+    out_agrees s h =
         let g : s % 2 ^ suc t ≡ chosen = rw add-one at h in
         ⊎_elim (λ e. (e, omega (arith, mod_out s t e))) (λ e. absurd (omega (arith, mod_in s t e))) (bit_cases s t)
 
-    open-in-up : (limit s : ℕ) → bit keep t ≡ 1 → Open w masks keep (t + 1) (chosen + 2 ^ t) limit s → Open w masks keep t chosen limit s
-    open-in-up limit s k o = record {
+    open_in_up : (limit s : ℕ) → bit keep t ≡ 1 → Open w masks keep (t + 1) (chosen + 2 ^ t) limit s → Open w masks keep t chosen limit s
+    open_in_up limit s k o = record {
       below = o.below;
-      agrees = (in-agrees s o.agrees).1;
+      agrees = (in_agrees s o.agrees).1;
       keeps = λ i l b. ⊎_elim (λ e. subst (λ (j : ℕ). bit keep j ≡ 1) e k) (λ h. o.keeps i (omega arith) b) (eq-or-lt_of_le l);
       hits = o.hits;
       light = o.light;
     }
 
-    open-out-up : (limit s : ℕ) → Open w masks keep (t + 1) chosen limit s → Open w masks keep t chosen limit s
-    open-out-up limit s o = record {
+    open_out_up : (limit s : ℕ) → Open w masks keep (t + 1) chosen limit s → Open w masks keep t chosen limit s
+    open_out_up limit s o = record {
       below = o.below;
-      agrees = (out-agrees s o.agrees).1;
+      agrees = (out_agrees s o.agrees).1;
       keeps = λ i l b.
-          ⊎_elim (λ e. absurd (omega (arith, ap (λ (j : ℕ). bit s j) e, (out-agrees s o.agrees).0, b)))
+          ⊎_elim (λ e. absurd (omega (arith, ap (λ (j : ℕ). bit s j) e, (out_agrees s o.agrees).0, b)))
           (λ h. o.keeps i (omega arith) b) (eq-or-lt_of_le l);
       hits = o.hits;
       light = o.light;
     }
 
     -- test t is not kept: it is out
-    pub best-skip : (limit : ℕ) (r : Found) → bit keep t ≡ 0 → Best w masks keep (t + 1) chosen limit r → Best w masks keep t chosen limit r
-    best-skip limit (Set s n) k b = (
-      open-out-up limit s b.0,
+    pub best_skip : (limit : ℕ) (r : Found) → bit keep t ≡ 0 → Best w masks keep (t + 1) chosen limit r → Best w masks keep t chosen limit r
+    best_skip limit (Set s n) k b = (
+      open_out_up limit s b.0,
       b.1,
-      λ s' o. b.2 s' (open-out-down limit s' (⊎_elim (λ e. e) (λ e. absurd (omega (arith, o.keeps t (omega arith) e))) (bit_cases s' t)) o),
+      λ s' o. b.2 s' (open_out_down limit s' (⊎_elim (λ e. e) (λ e. absurd (omega (arith, o.keeps t (omega arith) e))) (bit_cases s' t)) o),
     )
-    best-skip limit Nothing k b = λ s' o.
-        b s' (open-out-down limit s' (⊎_elim (λ e. e) (λ e. absurd (omega (arith, o.keeps t (omega arith) e))) (bit_cases s' t)) o)
+    best_skip limit Nothing k b = λ s' o.
+        b s' (open_out_down limit s' (⊎_elim (λ e. e) (λ e. absurd (omega (arith, o.keeps t (omega arith) e))) (bit_cases s' t)) o)
 
     -- test t is kept: `first` is the best with t in, `later` the best with t out and lighter than `first`
-    best-join : (limit : ℕ) (first later : Found) → bit keep t ≡ 1 → Best w masks keep (t + 1) (chosen + 2 ^ t) limit first
+    best_join : (limit : ℕ) (first later : Found) → bit keep t ≡ 1 → Best w masks keep (t + 1) (chosen + 2 ^ t) limit first
         → Best w masks keep (t + 1) chosen (limit_after first limit) later → Best w masks keep t chosen limit (or_else later first)
-    best-join limit (Set s n) (Set r m) k a b = (
-      open-limit n limit r (open-out-up n r b.0) (omega (arith, b.0.light, a.1, a.0.light)),
+    best_join limit (Set s n) (Set r m) k a b = (
+      open_limit n limit r (open_out_up n r b.0) (omega (arith, b.0.light, a.1, a.0.light)),
       b.1,
       λ s' o. ⊎_elim
-          (λ e. ⊎_elim (λ l. b.2 s' (open-out-down n s' e (open-limit limit n s' o l))) (λ l. inl (omega (arith, b.0.light))) (lt_or_ge (weight w s') n))
-          (λ e. inl (omega (arith, b.0.light, a.1, precedes-weight w s s' (a.2 s' (open-in-down limit s' e o))))) (bit_cases s' t),
+          (λ e. ⊎_elim (λ l. b.2 s' (open_out_down n s' e (open_limit limit n s' o l))) (λ l. inl (omega (arith, b.0.light))) (lt_or_ge (weight w s') n))
+          (λ e. inl (omega (arith, b.0.light, a.1, precedes_weight w s s' (a.2 s' (open_in_down limit s' e o))))) (bit_cases s' t),
     )
-    best-join limit (Set s n) Nothing k a b = (
-      open-in-up limit s k a.0,
+    best_join limit (Set s n) Nothing k a b = (
+      open_in_up limit s k a.0,
       a.1,
       λ s' o. ⊎_elim
-          (λ e. ⊎_elim (λ l. absurd (b s' (open-out-down n s' e (open-limit limit n s' o l))))
+          (λ e. ⊎_elim (λ l. absurd (b s' (open_out_down n s' e (open_limit limit n s' o l))))
           (λ l. ⊎_elim
-          (λ q. inr (sym a.1 ∙ q, inr (before_at s s' t ((in-agrees s a.0.agrees).1 ∙ sym o.agrees) (in-agrees s a.0.agrees).0 e)))
+          (λ q. inr (sym a.1 ∙ q, inr (before_at s s' t ((in_agrees s a.0.agrees).1 ∙ sym o.agrees) (in_agrees s a.0.agrees).0 e)))
           (λ g. inl (omega (arith, a.1))) (eq-or-lt_of_le l)) (lt_or_ge (weight w s') n))
-          (λ e. a.2 s' (open-in-down limit s' e o)) (bit_cases s' t),
+          (λ e. a.2 s' (open_in_down limit s' e o)) (bit_cases s' t),
     )
-    best-join limit Nothing (Set r m) k a b = (
-      open-out-up limit r b.0,
+    best_join limit Nothing (Set r m) k a b = (
+      open_out_up limit r b.0,
       b.1,
-      λ s' o. ⊎_elim (λ e. b.2 s' (open-out-down limit s' e o)) (λ e. absurd (a s' (open-in-down limit s' e o))) (bit_cases s' t),
+      λ s' o. ⊎_elim (λ e. b.2 s' (open_out_down limit s' e o)) (λ e. absurd (a s' (open_in_down limit s' e o))) (bit_cases s' t),
     )
-    best-join limit Nothing Nothing k a b = λ s' o.
-        ⊎_elim (λ e. b s' (open-out-down limit s' e o)) (λ e. a s' (open-in-down limit s' e o)) (bit_cases s' t)
+    best_join limit Nothing Nothing k a b = λ s' o.
+        ⊎_elim (λ e. b s' (open_out_down limit s' e o)) (λ e. a s' (open_in_down limit s' e o)) (bit_cases s' t)
 
     -- the same for the answer as the code has it
-    pub best-joined : (limit : ℕ) (first later r : Found) → r ≡ or_else later first → bit keep t ≡ 1 → Best w masks keep (t + 1) (chosen + 2 ^ t) limit first
+    pub best_joined : (limit : ℕ) (first later r : Found) → r ≡ or_else later first → bit keep t ≡ 1 → Best w masks keep (t + 1) (chosen + 2 ^ t) limit first
         → Best w masks keep (t + 1) chosen (limit_after first limit) later → Best w masks keep t chosen limit r
-    best-joined limit first later r e k a b = rw e (best-join limit first later k a b)
+    best_joined limit first later r e k a b = rw e (best_join limit first later k a b)
 
 pub limit_after_le : (w : ℕ → ℕ) (masks : List ℕ) (keep t chosen limit : ℕ) (r : Found) → Best w masks keep t chosen limit r → limit_after r limit ≤ limit
 limit_after_le w masks keep t chosen limit (Set s n) b = omega (arith, b.1, b.0.light)
@@ -145,48 +145,48 @@ best_end w masks keep t chosen limit at h z e s' o =
 
 module _ (w : ℕ → ℕ) (masks : List ℕ) (from t chosen used : ℕ) (node : Node w masks from t chosen used) where
   -- the limit leaves no room
-  pub best-full : (keep limit : ℕ) → limit ≤ used → Best w masks keep t chosen limit Nothing
-  best-full keep limit h s' o = omega (arith, agreed-weight w t chosen s' node.depth node.decided o.agrees, o.light, node.weighed)
+  pub best_full : (keep limit : ℕ) → limit ≤ used → Best w masks keep t chosen limit Nothing
+  best_full keep limit h s' o = omega (arith, agreed_weight w t chosen s' node.depth node.decided o.agrees, o.light, node.weighed)
 
   -- each open set needs more tests than there is room for
-  pub best-crowded : (keep limit n : ℕ) → used < limit → NeedsMore w masks keep t chosen n → limit - used ≤ n → Best w masks keep t chosen limit Nothing
-  best-crowded keep limit n h more l s' o = omega (arith, more limit s' o, o.light, node.weighed)
+  pub best_crowded : (keep limit n : ℕ) → used < limit → NeedsMore w masks keep t chosen n → limit - used ≤ n → Best w masks keep t chosen limit Nothing
+  best_crowded keep limit n h more l s' o = omega (arith, more limit s' o, o.light, node.weighed)
 
   module _ (at : ℕ) (unhit : FirstUnhit masks from chosen at) where
-    hit-to : (k : ℕ) → k < at → Shares (get_or masks k 0) chosen
-    hit-to k l = ⊎_elim (λ h. node.hit k h) (λ h. shares (get_or masks k 0) chosen (unhit.passed k h l)) (lt_or_ge k from)
+    hit_to : (k : ℕ) → k < at → Shares (get_or masks k 0) chosen
+    hit_to k l = ⊎_elim (λ h. node.hit k h) (λ h. shares (get_or masks k 0) chosen (unhit.passed k h l)) (lt_or_ge k from)
 
     -- every mask is hit
-    pub best-hit : ((i : ℕ) → 0 < w i) → (keep limit : ℕ) → at ≡ length masks → used < limit → Best w masks keep t chosen limit (Set chosen used)
-    best-hit positive keep limit e l = (
+    pub best_hit : ((i : ℕ) → 0 < w i) → (keep limit : ℕ) → at ≡ length masks → used < limit → Best w masks keep t chosen limit (Set chosen used)
+    best_hit positive keep limit e l = (
       record {
         below = lt_of_lt_of_le node.decided (pow_mono node.depth);
         agrees = mod-eq_of_lt node.decided;
         keeps = λ i h b. absurd (omega (arith, bit_high chosen t i node.decided h));
-        hits = λ k h. hit-to k (omega arith);
+        hits = λ k h. hit_to k (omega arith);
         light = omega (arith, node.weighed);
       },
       node.weighed,
-      λ s' o. ⊎_elim (λ q. inr (q, inl (agreed-same w t chosen s' node.depth node.decided o.agrees positive o.below q))) inl
-          (eq-or-lt_of_le (agreed-weight w t chosen s' node.depth node.decided o.agrees)),
+      λ s' o. ⊎_elim (λ q. inr (q, inl (agreed_same w t chosen s' node.depth node.decided o.agrees positive o.below q))) inl
+          (eq-or-lt_of_le (agreed_weight w t chosen s' node.depth node.decided o.agrees)),
     )
 
     -- the nodes below
-    pub node-out : t < 24 → Node w masks at (t + 1) chosen used
-    node-out l = record {
+    pub node_out : t < 24 → Node w masks at (t + 1) chosen used
+    node_out l = record {
       depth = omega arith;
       decided = lt_of_lt_of_le node.decided (pow_mono (omega arith));
       weighed = node.weighed;
       start = unhit.high;
-      hit = hit-to;
+      hit = hit_to;
     }
 
     pub node_in : t < 24 → Node w masks at (t + 1) (chosen + 2 ^ t) (used + w t)
     node_in l = record {
       depth = omega arith;
       decided = rw add-one (top_lt chosen t node.decided);
-      weighed = omega (arith, node.weighed, weight-top w chosen t l node.decided);
+      weighed = omega (arith, node.weighed, weight_top w chosen t l node.decided);
       start = unhit.high;
-      hit = λ k h. let m = hit-to k h in
+      hit = λ k h. let m = hit_to k h in
           (m.0, m.1, top_below chosen t m.0 node.decided (bit_below t chosen m.0 node.decided m.2) ∙ m.2);
     }

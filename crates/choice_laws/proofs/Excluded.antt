@@ -22,13 +22,13 @@ use Rattle.table.specs.declared.Refusal.{Refusal}
 use Rattle.table.specs.declared.Table.{Table}
 use Rattle.table.proofs.Formed.{formed}
 use Rattle.terms.specs.Choice.{Choice}
-use Rattle.terms.specs.Columns.{agrees, alike, apart as unlike, classNumber, lowest, lowestOf, outputOf}
+use Rattle.terms.specs.Columns.{agrees, alike, apart as unlike, class_number, lowest, lowest_of, output_of}
 use Rattle.terms.specs.Terms.{TestOf, class_of, signature}
-use Rattle.cover.specs.Masks.{goal_pair, differs, mask_of, goalMask, counts, maskRow, masks_of}
+use Rattle.cover.specs.Masks.{goal_pair, differs, mask_of, goal_mask, counts, mask_row, masks_of}
 use Rattle.choice.specs.Answer.{ChoiceIs}
-use Rattle.choice.proofs.Pins.{apart, choose-pins}
+use Rattle.choice.proofs.Pins.{apart, choose_pins}
 use Rattle.choice_laws.proofs.Tables.{row_from, rows_from, small, seen, unseen, equal, two, six, more}
-use Rattle.choice_laws.proofs.Small.{sameIn, leadsIn, precedes, hitsAt, hits, hitting, eachReaching, isChoice, choice-by}
+use Rattle.choice_laws.proofs.Small.{same_in, leads_in, precedes, hits_at, hits, hitting, each_reaching, is_choice, choice_by}
 
 -- ---- what the promise leaves: a table, a goal, and the choice
 
@@ -47,7 +47,7 @@ rows =
     ∷ []
 
 right : Row → Bool
-right (tb, goal, s) = both (well_formed tb) (isChoice tb goal s)
+right (tb, goal, s) = both (well_formed tb) (is_choice tb goal s)
 
 all_rows_right : List Row → Bool
 all_rows_right [] = true
@@ -64,7 +64,7 @@ meets : (r : Row) → right r ≡ true → Meets r
 unfolding right
 meets (tb, goal, s) h =
     let w = formed tb (both_left _ _ h) in
-    let c = choice-by tb goal s (both_right (well_formed tb) _ h) in
+    let c = choice_by tb goal s (both_right (well_formed tb) _ h) in
     (w, omega arith, c, size_most s (below_of_bits 24 s (λ t e. omega (arith, c.within t e, w.tests_fit))))
 
 claims_of : (rs : List Row) → all_rows_right rs ≡ true → Claims rs
@@ -73,7 +73,7 @@ claims_of [] h = tt
 claims_of (r ∷ rs) h = (meets r (both_left _ _ h), claims_of rs (both_right (right r) _ h))
 
 left : Claims rows
-unfolding right all_rows_right seen unseen equal two six more small row_from rows_from empty_table place_of cell_at onto joined single always well_formed label_right fresh differ row_right cell_right every some isChoice eachReaching hitting hits hitsAt precedes leadsIn sameIn within has total share one bit masks_of maskRow counts goalMask goal_pair mask_of set_of with_test differs agrees
+unfolding right all_rows_right seen unseen equal two six more small row_from rows_from empty_table place_of cell_at onto joined single always well_formed label_right fresh differ row_right cell_right every some is_choice each_reaching hitting hits hits_at precedes leads_in same_in within has total share one bit masks_of mask_row counts goal_mask goal_pair mask_of set_of with_test differs agrees
 left = claims_of rows refl
 
 pub two_formed : WellFormed two
@@ -84,7 +84,7 @@ two_formed = left.1.1.1.0.0
 -- no other set meets the promise
 module _ (tb : Table) (goal : Goal) (s : ℕ) (right-one : Meets (tb, goal, s)) where
   same_set : (s' : ℕ) → ChoiceIs tb goal 24 (Tests s') → s' ≡ s
-  same_set s' p = ap chosen_set (choose-pins tb goal 24 (Tests s') (Tests s) p right-one)
+  same_set s' p = ap chosen_set (choose_pins tb goal 24 (Tests s') (Tests s) p right-one)
 
 -- "a reader or chooser that only ever refuses"
 pub only_refusing : (why : Refusal) → ChoiceIs seen Detect 24 (Refused why) → ⊥
@@ -121,5 +121,5 @@ demanding why p = apart unseen Detect 24 0 why left.1.0 p
 
 -- a set that detects need not tell two classes apart: under {0} the two faults of different classes have one signature
 pub detects_only : Choice two Detect 1 × (signature two 1 1 ≡ signature two 1 2) × (class_of two 1 ≡ class_of two 2 → ⊥)
-unfolding two small row_from rows_from empty_table place_of cell_at joined single has bit outputOf classNumber count lowest unlike alike lowestOf first every agrees
+unfolding two small row_from rows_from empty_table place_of cell_at joined single has bit output_of class_number count lowest unlike alike lowest_of first every agrees
 detects_only = (left.1.1.1.1.1.1.0.2, refl, λ e. let z : ◌≡◌ {A = ℕ} 1 2 = e in omega arith)

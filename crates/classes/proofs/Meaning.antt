@@ -14,7 +14,7 @@ use Rattle.table.specs.Test.{well_formed}
 use Rattle.table.specs.declared.Classes.{Classes}
 use Rattle.table.specs.declared.Faults.{Faults}
 use Rattle.table.specs.declared.Table.{Table}
-use Rattle.terms.specs.Columns.{classNumber}
+use Rattle.terms.specs.Columns.{class_number}
 use Rattle.terms.specs.Terms.{class_of, class_count}
 use Rattle.terms_laws.proofs.Classes.{undetectable_zero, zero_undetectable}
 use Rattle.classes.specs.Classes.{unnumbered, numbers_of, classes_of}
@@ -27,21 +27,21 @@ classify_number tb given g = rw g (pick_ap {A = Classes} (λ x. verdict_number x
 
 module _ (tb : Table) (w : well_formed tb ≡ true) (given : Classes) (g : given ≡ classes_of tb) where
   -- `classify` gives each column its class number,
-  pub class-given : (c : ℕ) → c < columns tb → get_or given.of c 0 ≡ class_of tb c
+  pub class_given : (c : ℕ) → c < columns tb → get_or given.of c 0 ≡ class_of tb c
   unfolding classes_of numbers_of
-  class-given c l = rw (g, w) (listed_at (classNumber (output_at tb) tb.tests) (columns tb) c unnumbered l)
+  class_given c l = rw (g, w) (listed_at (class_number (output_at tb) tb.tests) (columns tb) c unnumbered l)
 
   -- and the number of classes
-  pub count-given : given.count ≡ class_count tb
+  pub count_given : given.count ≡ class_count tb
   unfolding classes_of
-  count-given = rw (g, w)
+  count_given = rw (g, w)
 
   -- a fault is in the set of `undetectable` exactly when the class of its column is 0
   module _ (r : Faults) (u : UndetectableIn tb r) (f : ℕ) where
-    pub held-zero : has (faults_set r) f ≡ true → get_or given.of (f + 1) 0 ≡ 0
-    held-zero h =
+    pub held_zero : has (faults_set r) f ≡ true → get_or given.of (f + 1) 0 ≡ 0
+    held_zero h =
         let x = tells_yes _ (u.holds w f) h in
-        class-given (f + 1) (omega (arith, x.0)) ∙ undetectable_zero tb f x.1
+        class_given (f + 1) (omega (arith, x.0)) ∙ undetectable_zero tb f x.1
 
     pub zero_held : f < tb.faults → get_or given.of (f + 1) 0 ≡ 0 → has (faults_set r) f ≡ true
-    zero_held l e = told_true _ (u.holds w f) (l, zero_undetectable tb f (sym (class-given (f + 1) (omega arith)) ∙ e))
+    zero_held l e = told_true _ (u.holds w f) (l, zero_undetectable tb f (sym (class_given (f + 1) (omega arith)) ∙ e))

@@ -6,9 +6,9 @@ use native.Mathlib.Omega.{arith}
 use lib.ListN.{length, get_or, set}
 use Rattle.folds.specs.Fold.{always, count, listed, onto}
 use Rattle.folds.proofs.Count.{count_yes, count_no}
-use Rattle.folds.proofs.Gather.{gather-end, listed_start, listed-store, listed_at}
-use Rattle.terms.specs.Columns.{lowest, lowestOf, classNumber}
-use Rattle.terms_laws.proofs.Classes.{is-lowest, not-lowest, lowest-alike, class_same, class-of-lowest}
+use Rattle.folds.proofs.Gather.{gather_end, listed_start, listed_store, listed_at}
+use Rattle.terms.specs.Columns.{lowest, lowest_of, class_number}
+use Rattle.terms_laws.proofs.Classes.{is_lowest, not_lowest, lowest_alike, class_same, class_of_lowest}
 use Rattle.classes.specs.Classes.{unnumbered, numbers_of}
 
 length_unnumbered : length unnumbered ≡ 61
@@ -16,30 +16,30 @@ unfolding unnumbered
 length_unnumbered = refl
 
 module _ (out : ℕ → ℕ → ℕ) (tests : ℕ) where
-  pub numbers-start : unnumbered ≡ onto (listed (classNumber out tests) 0) unnumbered
-  numbers-start = listed_start (classNumber out tests) unnumbered
+  pub numbers_start : unnumbered ≡ onto (listed (class_number out tests) 0) unnumbered
+  numbers_start = listed_start (class_number out tests) unnumbered
 
   -- a column with a lower one in its class
-  pub old-next : (i low k k' : ℕ) → k ≡ count (lowest out tests) i → low ≡ lowestOf out tests i → low < i → k' ≡ k → k' ≡ count (lowest out tests) (i + 1)
-  old-next i low k k' e f w g = omega (arith, count_no (lowest out tests) i (not-lowest out tests i (rw (← f) w)))
+  pub old_next : (i low k k' : ℕ) → k ≡ count (lowest out tests) i → low ≡ lowest_of out tests i → low < i → k' ≡ k → k' ≡ count (lowest out tests) (i + 1)
+  old_next i low k k' e f w g = omega (arith, count_no (lowest out tests) i (not_lowest out tests i (rw (← f) w)))
 
-  pub old-number : (s s' : List ℕ) (i low n : ℕ) → i < n → n ≤ 61 → s ≡ onto (listed (classNumber out tests) i) unnumbered → low ≡ lowestOf out tests i → low < i
-      → s' ≡ set s i (get_or s low 0) → s' ≡ onto (listed (classNumber out tests) (i + 1)) unnumbered
-  old-number s s' i low n w u e f v g =
-      let same : classNumber out tests low ≡ classNumber out tests i = rw f (sym (class_same out tests i (lowestOf out tests i) (lowest-alike out tests i))) in
+  pub old_number : (s s' : List ℕ) (i low n : ℕ) → i < n → n ≤ 61 → s ≡ onto (listed (class_number out tests) i) unnumbered → low ≡ lowest_of out tests i → low < i
+      → s' ≡ set s i (get_or s low 0) → s' ≡ onto (listed (class_number out tests) (i + 1)) unnumbered
+  old_number s s' i low n w u e f v g =
+      let same : class_number out tests low ≡ class_number out tests i = rw f (sym (class_same out tests i (lowest_of out tests i) (lowest_alike out tests i))) in
       g
-      ∙ rw e (listed-store (classNumber out tests) i unnumbered _ (omega (arith, length_unnumbered)) (listed_at (classNumber out tests) i low unnumbered v ∙ same))
+      ∙ rw e (listed_store (class_number out tests) i unnumbered _ (omega (arith, length_unnumbered)) (listed_at (class_number out tests) i low unnumbered v ∙ same))
 
   -- the lowest column of a new class
-  pub new-next : (i low k k' : ℕ) → k ≡ count (lowest out tests) i → low ≡ lowestOf out tests i → i ≤ low → k' ≡ k + 1 → k' ≡ count (lowest out tests) (i + 1)
-  new-next i low k k' e f w g = omega (arith, count_yes (lowest out tests) i (is-lowest out tests i (rw (← f) w)))
+  pub new_next : (i low k k' : ℕ) → k ≡ count (lowest out tests) i → low ≡ lowest_of out tests i → i ≤ low → k' ≡ k + 1 → k' ≡ count (lowest out tests) (i + 1)
+  new_next i low k k' e f w g = omega (arith, count_yes (lowest out tests) i (is_lowest out tests i (rw (← f) w)))
 
-  pub new-number : (s s' : List ℕ) (i low k n : ℕ) → i < n → n ≤ 61 → s ≡ onto (listed (classNumber out tests) i) unnumbered → low ≡ lowestOf out tests i → i ≤ low
-      → k ≡ count (lowest out tests) i → s' ≡ set s i k → s' ≡ onto (listed (classNumber out tests) (i + 1)) unnumbered
-  new-number s s' i low k n w u e f v q g =
+  pub new_number : (s s' : List ℕ) (i low k n : ℕ) → i < n → n ≤ 61 → s ≡ onto (listed (class_number out tests) i) unnumbered → low ≡ lowest_of out tests i → i ≤ low
+      → k ≡ count (lowest out tests) i → s' ≡ set s i k → s' ≡ onto (listed (class_number out tests) (i + 1)) unnumbered
+  new_number s s' i low k n w u e f v q g =
       g
-      ∙ rw e (listed-store (classNumber out tests) i unnumbered k (omega (arith, length_unnumbered)) (q ∙ sym (class-of-lowest out tests i (is-lowest out tests i (rw (← f) v)))))
+      ∙ rw e (listed_store (class_number out tests) i unnumbered k (omega (arith, length_unnumbered)) (q ∙ sym (class_of_lowest out tests i (is_lowest out tests i (rw (← f) v)))))
 
-  pub numbers-end : (s : List ℕ) (i n : ℕ) → i ≤ n → n ≤ i → s ≡ onto (listed (classNumber out tests) i) unnumbered → s ≡ numbers_of out tests n
+  pub numbers_end : (s : List ℕ) (i n : ℕ) → i ≤ n → n ≤ i → s ≡ onto (listed (class_number out tests) i) unnumbered → s ≡ numbers_of out tests n
   unfolding numbers_of
-  numbers-end s i n w u e = gather-end always (classNumber out tests) n i unnumbered s e w u
+  numbers_end s i n w u e = gather_end always (class_number out tests) n i unnumbered s e w u

@@ -8,7 +8,7 @@ use Rattle.table.specs.declared.Classes.{Classes}
 use Rattle.table.specs.declared.Refusal.TheVariants.{NotWellFormed}
 use Rattle.table.specs.declared.Table.{Table}
 use Rattle.table.specs.declared.Verdict.TheVariants.{Accepted, Refused}
-use Rattle.terms.specs.Columns.{classNumber}
+use Rattle.terms.specs.Columns.{class_number}
 use Rattle.terms.specs.Terms.{class_count}
 
 -- no column's number
@@ -17,7 +17,7 @@ unnumbered = replicate 61 0
 
 -- "Classes are numbered by their lowest column": the number of each column, and zero past the last
 unfoldable pub numbers_of : (ℕ → ℕ → ℕ) → ℕ → ℕ → List ℕ
-numbers_of out tests n = onto (listed (classNumber out tests) n) unnumbered
+numbers_of out tests n = onto (listed (class_number out tests) n) unnumbered
 
 -- "A refused call returns the number with the empty set, list or count 0": 20 where the table is not well formed
 unfoldable pub classes_of : Table → Classes

@@ -3,7 +3,7 @@ ghost use Rattle.std.specs.Prelude.{◌≡◌, ◌≤◌, ◌<◌};
 ghost use Rattle.folds.specs.Fold.{count};
 ghost use Rattle.sets.specs.Sets.{has};
 ghost use Rattle.table.specs.Table.{cell_at};
-ghost use Rattle.terms.specs.Columns.{agrees, alike, apart, lowest, lowestOf};
+ghost use Rattle.terms.specs.Columns.{agrees, alike, apart, lowest, lowest_of};
 ghost use Rattle.sets.specs.Collect.{set_of};
 
 // Whether test t gives the columns a and b one output.
@@ -55,7 +55,7 @@ pub fn lowest(cells: &[u8; 1464], tests: usize, c: usize) -> bool
 // The lowest column of c's class.
 pub fn lowest_of(cells: &[u8; 1464], tests: usize, c: usize) -> usize
     requires { (tests ≤ 24) × (c < 61) }
-    ensures { result ≡ lowestOf (cell_at cells.now) tests c }
+    ensures { result ≡ lowest_of (cell_at cells.now) tests c }
 {
     let mut i = 0;
     while i < c {

@@ -11,10 +11,10 @@ use Rattle.folds.specs.Fold.{count}
 use Rattle.folds.proofs.Bools.{clash}
 use Rattle.folds.proofs.Below.{lt_or_ge}
 use Rattle.folds.proofs.Count.{count_above}
-use Rattle.folds.proofs.Gather.{gather-length}
+use Rattle.folds.proofs.Gather.{gather_length}
 use Rattle.table.specs.declared.Goal.{Goal}
 use Rattle.table.specs.declared.Goal.TheVariants.{Detect, Diagnose}
-use Rattle.cover.specs.Masks.{goal_pair, mask_of, goalMask, counts, maskRow}
+use Rattle.cover.specs.Masks.{goal_pair, mask_of, goal_mask, counts, mask_row}
 
 -- ---- the code's tests
 
@@ -32,35 +32,35 @@ unfolding goal_pair
 pair_diagnose goal a b h e = rw e (sym (lt-ltb a b h))
 
 module _ (out : ℕ → ℕ → ℕ) (tests : ℕ) (goal : Goal) (a b : ℕ) (r : Bool) (e : r ≡ goal_pair goal a b) where
-  pub goal-mask-none : not r ≡ true → 0 ≡ goalMask out tests goal a b
-  unfolding goalMask
-  goal-mask-none n = rw (← e, not-true r n)
+  pub goal_mask_none : not r ≡ true → 0 ≡ goal_mask out tests goal a b
+  unfolding goal_mask
+  goal_mask_none n = rw (← e, not-true r n)
 
-  pub goal-mask-is : not r ≡ false → (m : ℕ) → m ≡ mask_of out tests a b → m ≡ goalMask out tests goal a b
-  unfolding goalMask
-  goal-mask-is n m h = rw (← e, not-false r n, h)
+  pub goal_mask_is : not r ≡ false → (m : ℕ) → m ≡ mask_of out tests a b → m ≡ goal_mask out tests goal a b
+  unfolding goal_mask
+  goal_mask_is n m h = rw (← e, not-false r n, h)
 
 -- ---- the masks of one row
 
-module _ (out : ℕ → ℕ → ℕ) (tests : ℕ) (goal : Goal) (a b m : ℕ) (e : m ≡ goalMask out tests goal a b) where
-  pub counts-yes : (m ≡ 0 → ⊥) → counts out tests goal a b ≡ true
+module _ (out : ℕ → ℕ → ℕ) (tests : ℕ) (goal : Goal) (a b m : ℕ) (e : m ≡ goal_mask out tests goal a b) where
+  pub counts_yes : (m ≡ 0 → ⊥) → counts out tests goal a b ≡ true
   unfolding counts
-  counts-yes ne = rw (← e, ne_eqb m 0 ne)
+  counts_yes ne = rw (← e, ne_eqb m 0 ne)
 
-  pub counts-no : m ≡ 0 → counts out tests goal a b ≡ false
+  pub counts_no : m ≡ 0 → counts out tests goal a b ≡ false
   unfolding counts
-  counts-no z = rw (← e, eq-eqb m 0 z)
+  counts_no z = rw (← e, eq-eqb m 0 z)
 
 module _ (out : ℕ → ℕ → ℕ) (tests : ℕ) (goal : Goal) (a : ℕ) where
-  counts-above : (b : ℕ) → counts out tests goal a b ≡ true → a < b
-  unfolding counts goalMask
-  counts-above b h = ⊎_elim (λ l. l) (λ l. clash true refl (sym h ∙ rw (← pair_not goal a b l))) (lt_or_ge a b)
+  counts_above : (b : ℕ) → counts out tests goal a b ≡ true → a < b
+  unfolding counts goal_mask
+  counts_above b h = ⊎_elim (λ l. l) (λ l. clash true refl (sym h ∙ rw (← pair_not goal a b l))) (lt_or_ge a b)
 
-  pub row-few : (columns : ℕ) → length (maskRow out tests goal columns a) ≤ columns - (a + 1)
-  unfolding maskRow
-  row-few columns =
-      rw (gather-length (counts out tests goal a) (goalMask out tests goal a) columns) (count_above (counts out tests goal a) a counts-above columns)
+  pub row_few : (columns : ℕ) → length (mask_row out tests goal columns a) ≤ columns - (a + 1)
+  unfolding mask_row
+  row_few columns =
+      rw (gather_length (counts out tests goal a) (goal_mask out tests goal a) columns) (count_above (counts out tests goal a) a counts_above columns)
 
   -- there is room for one mask more
   pub row_room : (columns n i m : ℕ) → n ≡ count (counts out tests goal a) i → counts out tests goal a i ≡ true → i < columns → columns ≤ a + 1 + m → n < m
-  row_room columns n i m e h l k = omega (arith, count_above (counts out tests goal a) a counts-above i, counts-above i h)
+  row_room columns n i m e h l k = omega (arith, count_above (counts out tests goal a) a counts_above i, counts_above i h)

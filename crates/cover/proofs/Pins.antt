@@ -13,8 +13,8 @@ use Rattle.terms.specs.Terms.{TestOf, Essential}
 use Rattle.cover.specs.Answer.{Exactly, Gives, AsideTest}
 
 module _ (tb : Table) (P : ℕ → Type 0) (test : (t : ℕ) → P t → TestOf tb t) where
-  exactly-one : (s₁ s₂ : ℕ) → Exactly P s₁ → Exactly P s₂ → s₁ ≡ s₂
-  exactly-one s₁ s₂ a b = bits_equal tb.tests s₁ s₂ (small s₁ a) (small s₂ b) (λ t l. same t)
+  exactly_one : (s₁ s₂ : ℕ) → Exactly P s₁ → Exactly P s₂ → s₁ ≡ s₂
+  exactly_one s₁ s₂ a b = bits_equal tb.tests s₁ s₂ (small s₁ a) (small s₂ b) (λ t l. same t)
     where
       small : (s : ℕ) → Exactly P s → s < 2 ^ tb.tests
       small s e = below_of_bits tb.tests s (λ t h. test t (e.inside t h))
@@ -26,7 +26,7 @@ module _ (tb : Table) (P : ℕ → Type 0) (test : (t : ℕ) → P t → TestOf 
           (bit_cases s₁ t)
 
   gives_one : (r₁ r₂ : Chosen) → Gives tb P r₁ → Gives tb P r₂ → r₁ ≡ r₂
-  gives_one (Tests s₁) (Tests s₂) a b = ap Tests (exactly-one s₁ s₂ a.1 b.1)
+  gives_one (Tests s₁) (Tests s₂) a b = ap Tests (exactly_one s₁ s₂ a.1 b.1)
   gives_one (Tests s₁) (Refused why₂) a b = absurd (b.0 a.0)
   gives_one (Refused why₁) (Tests s₂) a b = absurd (a.0 b.0)
   gives_one (Refused why₁) (Refused why₂) a b = ap Refused (number_one why₁ why₂ (a.1 ∙ sym b.1))

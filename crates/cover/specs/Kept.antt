@@ -17,8 +17,8 @@ module _ (masks : List ℕ) where
   unfoldable pub has_at : ℕ → ℕ → Bool
   has_at t k = has (get_or masks k 0) t
 
-  unfoldable pub followsAt : ℕ → ℕ → ℕ → Bool
-  followsAt u t k = follows u t (get_or masks k 0)
+  unfoldable pub follows_at : ℕ → ℕ → ℕ → Bool
+  follows_at u t k = follows u t (get_or masks k 0)
 
   unfoldable pub is_at : ℕ → ℕ → ℕ → Bool
   is_at kept t k = mask_is kept t (get_or masks k 0)
@@ -29,15 +29,15 @@ module _ (masks : List ℕ) where
 
   -- test u is in every mask that test t is in
   unfoldable pub covers : ℕ → ℕ → Bool
-  covers u t = every (followsAt u t) (length masks)
+  covers u t = every (follows_at u t) (length masks)
 
   -- test u outdoes test t: "a lower-numbered test separates every goal pair that it does"
-  unfoldable pub outdoneBy : ℕ → ℕ → Bool
-  outdoneBy t u = both (ltb u t) (covers u t)
+  unfoldable pub outdone_by : ℕ → ℕ → Bool
+  outdone_by t u = both (ltb u t) (covers u t)
 
   -- some test outdoes test t
   unfoldable pub outdone : ℕ → ℕ → Bool
-  outdone tests t = some (outdoneBy t) tests
+  outdone tests t = some (outdone_by t) tests
 
   -- no test outdoes test t, and it separates some goal pair: it is not set aside
   unfoldable pub kept : ℕ → ℕ → Bool

@@ -31,17 +31,17 @@ module _ (out : ℕ → ℕ → ℕ) where
 
     module _ (goal : Goal) where
       -- the same for a goal pair; none for any other pair
-      unfoldable pub goalMask : ℕ → ℕ → ℕ
-      goalMask a b = pick (goal_pair goal a b) (mask_of a b) 0
+      unfoldable pub goal_mask : ℕ → ℕ → ℕ
+      goal_mask a b = pick (goal_pair goal a b) (mask_of a b) 0
 
       -- "Only those count which some test of the table separates."
       unfoldable pub counts : ℕ → ℕ → Bool
-      counts a b = not (eqb (goalMask a b) 0)
+      counts a b = not (eqb (goal_mask a b) 0)
 
       -- the masks of the pairs with the lower column a that count
-      unfoldable pub maskRow : ℕ → ℕ → List ℕ
-      maskRow columns a = gather (counts a) (goalMask a) columns
+      unfoldable pub mask_row : ℕ → ℕ → List ℕ
+      mask_row columns a = gather (counts a) (goal_mask a) columns
 
 -- the masks of a goal's pairs that count, in rising order of the pairs, lower column first
 unfoldable pub masks_of : Table → Goal → List ℕ
-masks_of tb goal = joined always (maskRow (output_at tb) tb.tests goal (columns tb)) (columns tb)
+masks_of tb goal = joined always (mask_row (output_at tb) tb.tests goal (columns tb)) (columns tb)

@@ -2,7 +2,7 @@
 ghost use Rattle.std.specs.Prelude.{◌≡◌, ◌+◌, ◌≤◌, ◌<◌, length};
 ghost use Rattle.folds.specs.Fold.{onto};
 ghost use Rattle.table.specs.Table.{cell_at};
-ghost use Rattle.cover.specs.Masks.{differs, mask_of, goal_pair, goalMask, maskRow};
+ghost use Rattle.cover.specs.Masks.{differs, mask_of, goal_pair, goal_mask, mask_row};
 
 use table::Goal;
 
@@ -44,7 +44,7 @@ fn goal_pair(goal: Goal, a: usize, b: usize) -> bool
 // The tests that separate the columns a and b, where they are a pair of the goal; else none.
 fn goal_mask(cells: &[u8; 1464], tests: usize, goal: Goal, a: usize, b: usize) -> u32
     requires { (tests ≤ 24) × (a < 61) × (b < 61) }
-    ensures { result ≡ goalMask (cell_at cells.now) tests goal a b }
+    ensures { result ≡ goal_mask (cell_at cells.now) tests goal a b }
 {
     if !goal_pair(goal, a, b) {
         return 0;
@@ -62,8 +62,8 @@ pub fn fill_row(
     row: &mut [u32],
 ) -> usize
     requires { (tests ≤ 24) × (columns ≤ 61) × (a < columns) × (columns ≤ a + 1 + length row.old) }
-    ensures value { result ≡ length (maskRow (cell_at cells.now) tests goal columns a) }
-    ensures row_after { row.new ≡ onto (maskRow (cell_at cells.now) tests goal columns a) row.old }
+    ensures value { result ≡ length (mask_row (cell_at cells.now) tests goal columns a) }
+    ensures row_after { row.new ≡ onto (mask_row (cell_at cells.now) tests goal columns a) row.old }
 {
     let mut n: usize = 0;
     let mut i: usize = 0;

@@ -6,7 +6,7 @@ ghost use Rattle.folds.specs.Fold.{count, onto};
 ghost use Rattle.lent.specs.Lent.{set_number, WritesOnto};
 ghost use Rattle.sets.specs.Sets.{has};
 ghost use Rattle.table.specs.Table.{cell_at};
-ghost use Rattle.terms.specs.Columns.{outputsUnder};
+ghost use Rattle.terms.specs.Columns.{outputs_under};
 ghost use Rattle.dictionary.specs.Dictionary.{rows_under, dictionary_of};
 
 use table::{Refusal, Table, Written};
@@ -14,7 +14,7 @@ use table::{Refusal, Table, Written};
 // Writes the signature of column c to a row of its length.
 fn write_row(cells: &[u8; 1464], tests: usize, set: u32, c: usize, row: &mut [u8])
     requires { (tests ≤ 24) × (c < 61) × (length row.old ≡ count (has set) tests) }
-    ensures { row.new ≡ outputsUnder (cell_at cells.now) tests set c }
+    ensures { row.new ≡ outputs_under (cell_at cells.now) tests set c }
 {
     let mut j = 0;
     let mut i = 0;

@@ -17,17 +17,17 @@ use Rattle.table.specs.declared.Suspects.{Suspects}
 use Rattle.table.specs.declared.Verdict.TheVariants.{Accepted, Refused}
 use Rattle.table.specs.declared.Written.{Written}
 use Rattle.table.proofs.Formed.{tested}
-use Rattle.terms.specs.Columns.{agrees, alike, apart, lowest, outputOf}
+use Rattle.terms.specs.Columns.{agrees, alike, apart, lowest, output_of}
 use Rattle.classes.specs.Classes.{classes_of}
-use Rattle.classes.proofs.Meaning.{count-given}
+use Rattle.classes.proofs.Meaning.{count_given}
 use Rattle.lent.specs.Lent.{set_number, WritesOnto}
 use Rattle.dictionary.specs.Dictionary.{dictionary_of}
-use Rattle.witness.specs.Witness.{above, separates, sheet_of, witnessOf}
+use Rattle.witness.specs.Witness.{above, separates, sheet_of, witness_of}
 use Rattle.suspects.specs.Suspects.{equal, suspect, suspects_of}
 use Rattle.suspects.proofs.Meaning.{counted}
 use Rattle.choice_laws.proofs.Tables.{row_from, rows_from, small, two}
 use Rattle.choice_laws.proofs.Excluded.{two_formed}
-use Rattle.excluded.proofs.Left.{no_other, refused_differs, writes-something, no-other-length}
+use Rattle.excluded.proofs.Left.{no_other, refused_differs, writes_something, no_other_length}
 
 -- ---- "Two tests, correct 0 0; fault a gives 1 1, fault b gives 1 2"
 
@@ -52,11 +52,11 @@ unfolding set_number
 unrefused = rw (well_formed_lem, known.0)
 
 dictionary_bytes : dictionary_of two 3 ≡ rows
-unfolding two small row_from rows_from empty_table place_of cell_at joined single has bit outputOf lowest apart alike every agrees
+unfolding two small row_from rows_from empty_table place_of cell_at joined single has bit output_of lowest apart alike every agrees
 dictionary_bytes = refl
 
 sheet_bytes : sheet_of two 3 ≡ witnesses
-unfolding two small row_from rows_from empty_table place_of cell_at joined single has bit first separates witnessOf above lowest apart alike every agrees
+unfolding two small row_from rows_from empty_table place_of cell_at joined single has bit first separates witness_of above lowest apart alike every agrees
 sheet_bytes = refl
 
 classified : (classes_of two).verdict ≡ Accepted
@@ -65,30 +65,30 @@ classified = rw well_formed_lem
 
 three_classes : (classes_of two).count ≡ 3
 unfolding two small row_from rows_from empty_table place_of cell_at count lowest apart alike every agrees
-three_classes = count-given two well_formed_lem (classes_of two) refl
+three_classes = count_given two well_formed_lem (classes_of two) refl
 
 -- under test 0 both faults answer 1
 two_suspects : (suspects_of two 1 (1 ∷ [])).count ≡ 2
-unfolding two small row_from rows_from empty_table place_of cell_at joined single has bit count suspect equal outputOf
+unfolding two small row_from rows_from empty_table place_of cell_at joined single has bit count suspect equal output_of
 two_suspects = counted two 1 (1 ∷ []) well_formed_lem known.1 refl (suspects_of two 1 (1 ∷ [])) refl
 
 -- ---- what the promises exclude
 
 -- "a dictionary call that writes nothing"
 pub dictionary_writes_nothing : (d : List ℕ) → 6 ≤ length d → (take 6 d ≡ rows → ⊥) → (r : Written) → WritesOnto (set_number two 3) (dictionary_of two 3) d r d → ⊥
-dictionary_writes_nothing = writes-something (set_number two 3) (dictionary_of two 3) rows unrefused dictionary_bytes
+dictionary_writes_nothing = writes_something (set_number two 3) (dictionary_of two 3) rows unrefused dictionary_bytes
 
 -- the same of the witness sheet
 pub sheet_writes_nothing : (d : List ℕ) → 3 ≤ length d → (take 3 d ≡ witnesses → ⊥) → (r : Written) → WritesOnto (set_number two 3) (sheet_of two 3) d r d → ⊥
-sheet_writes_nothing = writes-something (set_number two 3) (sheet_of two 3) witnesses unrefused sheet_bytes
+sheet_writes_nothing = writes_something (set_number two 3) (sheet_of two 3) witnesses unrefused sheet_bytes
 
 -- "a class, byte or test count made up": the bytes of the dictionary,
 pub made_up_dictionary_bytes : (d : List ℕ) → 6 ≤ length d → (n : ℕ) → (n ≡ 6 → ⊥) → (r : Written) (e : List ℕ) → WritesOnto (set_number two 3) (dictionary_of two 3) d r e → written_count r ≡ n → ⊥
-made_up_dictionary_bytes = no-other-length (set_number two 3) (dictionary_of two 3) rows unrefused dictionary_bytes
+made_up_dictionary_bytes = no_other_length (set_number two 3) (dictionary_of two 3) rows unrefused dictionary_bytes
 
 -- of the witness sheet,
 pub made_up_sheet_bytes : (d : List ℕ) → 3 ≤ length d → (n : ℕ) → (n ≡ 3 → ⊥) → (r : Written) (e : List ℕ) → WritesOnto (set_number two 3) (sheet_of two 3) d r e → written_count r ≡ n → ⊥
-made_up_sheet_bytes = no-other-length (set_number two 3) (sheet_of two 3) witnesses unrefused sheet_bytes
+made_up_sheet_bytes = no_other_length (set_number two 3) (sheet_of two 3) witnesses unrefused sheet_bytes
 
 -- the classes,
 pub made_up_classes : (n : ℕ) → (n ≡ 3 → ⊥) → (c : Classes) → c ≡ classes_of two → c.count ≡ n → ⊥

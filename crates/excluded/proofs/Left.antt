@@ -6,7 +6,7 @@ use native.Mathlib.Omega.{arith}
 use lib.ListN.{length, take}
 use Rattle.folds.proofs.Onto.{onto_front}
 use Rattle.lent.specs.Lent.{WritesOnto}
-use Rattle.lent.proofs.Lent.{room-enough}
+use Rattle.lent.proofs.Lent.{room_enough}
 use Rattle.table.specs.Answers.{written_number, written_count}
 use Rattle.table.specs.declared.Refusal.{Refusal}
 use Rattle.table.specs.declared.Verdict.{Verdict}
@@ -26,18 +26,18 @@ refused_differs why e = let z : ◌≡◌ {A = ℕ} 0 1 = cc in omega arith
 module _ (earlier : ℕ) (answer xs : List ℕ) (unrefused : earlier ≡ 0) (is : answer ≡ xs) (d : List ℕ) (room : length xs ≤ length d) where
   module _ (r : Written) (e : List ℕ) (w : WritesOnto earlier answer d r e) where
     accepted : written_number r ≡ 0
-    accepted = w.number ∙ rw (unrefused, is) (room-enough xs d room)
+    accepted = w.number ∙ rw (unrefused, is) (room_enough xs d room)
 
-    all-bytes : r ≡ Bytes (length xs)
-    all-bytes = written_one r (Bytes (length xs)) accepted (w.count ∙ rw (accepted, is))
+    all_bytes : r ≡ Bytes (length xs)
+    all_bytes = written_one r (Bytes (length xs)) accepted (w.count ∙ rw (accepted, is))
 
     front : take (length xs) e ≡ xs
     front = rw (w.buffer, accepted, is) (onto_front xs d)
 
   -- it leaves the buffer as it was only where the answer stood there already
-  pub writes-something : (take (length xs) d ≡ xs → ⊥) → (r : Written) → WritesOnto earlier answer d r d → ⊥
-  writes-something new r w = new (front r d w)
+  pub writes_something : (take (length xs) d ≡ xs → ⊥) → (r : Written) → WritesOnto earlier answer d r d → ⊥
+  writes_something new r w = new (front r d w)
 
   -- it gives no other count than the answer's length
-  pub no-other-length : (n : ℕ) → (n ≡ length xs → ⊥) → (r : Written) (e : List ℕ) → WritesOnto earlier answer d r e → written_count r ≡ n → ⊥
-  no-other-length n differs r e w = no_other written_count (Bytes (length xs)) (length xs) refl n differs r (all-bytes r e w)
+  pub no_other_length : (n : ℕ) → (n ≡ length xs → ⊥) → (r : Written) (e : List ℕ) → WritesOnto earlier answer d r e → written_count r ≡ n → ⊥
+  no_other_length n differs r e w = no_other written_count (Bytes (length xs)) (length xs) refl n differs r (all_bytes r e w)

@@ -15,11 +15,11 @@ use Rattle.table.specs.declared.Verdict.{Verdict}
 use Rattle.table.specs.declared.Verdict.TheVariants.{Accepted, Refused}
 use Rattle.grow.specs.Grow.{differs, filled}
 use Rattle.book.specs.Reading.{read_book}
-use Rattle.records.specs.Step.{record_bytes, edgeRule, endRule, faultRule, first_of, kindRule, responseRule, ruleAt, stepAt, testRule, unknownRule}
+use Rattle.records.specs.Step.{record_bytes, edge_rule, end_rule, fault_rule, first_of, kind_rule, response_rule, rule_at, step_at, test_rule, unknown_rule}
 use Rattle.records.specs.declared.Record.TheVariants.{End}
 use Rattle.book_laws.specs.Accepts.{BookOfTable}
 use Rattle.book_laws.proofs.Accepted.{accepted_gave, accepts_whole}
-use Rattle.book_laws.proofs.Body.{body_of, book-body}
+use Rattle.book_laws.proofs.Body.{body_of, book_body}
 use Rattle.book_laws.proofs.Books.{book_accepts}
 use Rattle.small_books.specs.Books.{equal_tests}
 use Rattle.excluded.proofs.Left.{no_other, refused_differs}
@@ -38,7 +38,7 @@ fault_count r = r.table.faults
 -- ---- "Two equal tests and one fault they see"
 
 read : (verdict_of (read_book equal_tests) ≡ Accepted) × (test_count (read_book equal_tests) ≡ 2) × (fault_count (read_book equal_tests) ≡ 1)
-unfolding read_book stepAt ruleAt kindRule edgeRule unknownRule endRule responseRule faultRule testRule first_of filled differs empty_table cell_at place_of every
+unfolding read_book step_at rule_at kind_rule edge_rule unknown_rule end_rule response_rule fault_rule test_rule first_of filled differs empty_table cell_at place_of every
 read = (refl, refl, refl)
 
 -- "a reader or chooser that only ever refuses"
@@ -68,18 +68,18 @@ module _ (book : List ℕ) (taken : (read_book book).verdict ≡ Accepted) where
   end = record_bytes (End tb.tests tb.faults)
 
   ended : book ≡ body_of tb ++ end
-  ended = (accepted_gave book tb (accepts_whole book taken)).is_book ∙ book-body tb
+  ended = (accepted_gave book tb (accepts_whole book taken)).is_book ∙ book_body tb
 
   counted : length book ≡ length (body_of tb) + 3
   counted = ap length ended ∙ length-append (body_of tb) end
 
-  end-byte : (k i : ℕ) → length (body_of tb) + i ≡ k → get_or end i 0 ≡ get_or book k 0
-  end-byte k i at = sym (ap (λ (xs : List ℕ). get_or xs k 0) ended ∙ ap (λ (j : ℕ). get_or (body_of tb ++ end) j 0) (sym at) ∙ get_or-append-add (body_of tb) end i 0)
+  end_byte : (k i : ℕ) → length (body_of tb) + i ≡ k → get_or end i 0 ≡ get_or book k 0
+  end_byte k i at = sym (ap (λ (xs : List ℕ). get_or xs k 0) ended ∙ ap (λ (j : ℕ). get_or (body_of tb ++ end) j 0) (sym at) ∙ get_or-append-add (body_of tb) end i 0)
 
   -- "a class, byte or test count made up": the byte before the last counts the tests,
-  pub other-tests-than-its-end : (n : ℕ) → (n ≡ get_or book (length book - 2) 0 → ⊥) → (r : Reading) → r ≡ read_book book → r.table.tests ≡ n → ⊥
-  other-tests-than-its-end = no_other test_count (read_book book) (get_or book (length book - 2) 0) (end-byte (length book - 2) 1 (omega (arith, counted)))
+  pub other_tests_than_its_end : (n : ℕ) → (n ≡ get_or book (length book - 2) 0 → ⊥) → (r : Reading) → r ≡ read_book book → r.table.tests ≡ n → ⊥
+  other_tests_than_its_end = no_other test_count (read_book book) (get_or book (length book - 2) 0) (end_byte (length book - 2) 1 (omega (arith, counted)))
 
   -- and the last the faults
-  pub other-faults-than-its-end : (n : ℕ) → (n ≡ get_or book (length book - 1) 0 → ⊥) → (r : Reading) → r ≡ read_book book → r.table.faults ≡ n → ⊥
-  other-faults-than-its-end = no_other fault_count (read_book book) (get_or book (length book - 1) 0) (end-byte (length book - 1) 2 (omega (arith, counted)))
+  pub other_faults_than_its_end : (n : ℕ) → (n ≡ get_or book (length book - 1) 0 → ⊥) → (r : Reading) → r ≡ read_book book → r.table.faults ≡ n → ⊥
+  other_faults_than_its_end = no_other fault_count (read_book book) (get_or book (length book - 1) 0) (end_byte (length book - 1) 2 (omega (arith, counted)))

@@ -18,6 +18,6 @@ module _ (bytes : List ℕ) where
   unfolding lent_table
   lent_none ne = rw (ne_eqb (length bytes) 1586 ne) refl
 
-  pub lent-table : (tb : Table) → length bytes ≡ 1586 → tb ≡ table_of bytes → tb ≡ lent_table bytes
+  pub lent_table_lem : (tb : Table) → length bytes ≡ 1586 → tb ≡ table_of bytes → tb ≡ lent_table bytes
   unfolding lent_table
-  lent-table tb l e = rw (eq-eqb (length bytes) 1586 l) e
+  lent_table_lem tb l e = rw (eq-eqb (length bytes) 1586 l) e

@@ -43,12 +43,12 @@ refusal_packed a why n e en = rw e (omega arith)
 -- ---- counts
 
 module _ (a : Written) (n : ℕ) (e : a ≡ written.Bytes n) where
-  pub count-below : written_count a < value_limit → n < value_limit
-  count-below h = rw e at h
+  pub count_below : written_count a < value_limit → n < value_limit
+  count_below h = rw e at h
 
-  pub count-packed : n * 256 ≡ packed (written_number a) (written_count a)
+  pub count_packed : n * 256 ≡ packed (written_number a) (written_count a)
   unfolding packed
-  count-packed = rw e (omega arith)
+  count_packed = rw e (omega arith)
 
 pub unwritten_packed : (a : Written) (why : Refusal) (n : ℕ) → a ≡ written.Refused why → n ≡ number_of why → n ≡ packed (written_number a) (written_count a)
 unfolding packed

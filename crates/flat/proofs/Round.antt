@@ -8,7 +8,7 @@ use lib.ListN.{length, get_or, length-set, length-replicate, get_or-append}
 use lib.Seq.{ext_get_or}
 use Rattle.folds.specs.Fold.{listed}
 use Rattle.folds.proofs.Below.{eq_or_ne}
-use Rattle.folds.proofs.Gather.{listed-length, listed-get}
+use Rattle.folds.proofs.Gather.{listed_length, listed_get}
 use Rattle.table.specs.Table.{cell_at, place_of, output_at}
 use Rattle.table.specs.WellFormed.{OfType}
 use Rattle.table.specs.declared.Table.{Table}
@@ -61,28 +61,28 @@ module _ (tb : Table) where
       let et : (t * 61 + c) / 61 ≡ t = omega arith in
       let ec : (t * 61 + c) % 61 ≡ c = omega arith in
       rw e (past (t * 61 + c)
-      ∙ get_or-append cells (lines ++ stuck) 0 (t * 61 + c) (omega (arith, listed-length (cell_of (output_at tb)) 1464))
-      ∙ listed-get (cell_of (output_at tb)) 1464 (t * 61 + c) (omega arith) ∙ rw (et, ec) refl)
+      ∙ get_or-append cells (lines ++ stuck) 0 (t * 61 + c) (omega (arith, listed_length (cell_of (output_at tb)) 1464))
+      ∙ listed_get (cell_of (output_at tb)) 1464 (t * 61 + c) (omega arith) ∙ rw (et, ec) refl)
 
-  line-byte : (f : ℕ) → f < 60 → byte_at (bytes_of tb) 1466 f ≡ get_or tb.lines f 0
+  line_byte : (f : ℕ) → f < 60 → byte_at (bytes_of tb) 1466 f ≡ get_or tb.lines f 0
   unfolding byte_at label_of cells lines
-  line-byte f h =
-      let e : 1466 + f ≡ 2 + (length cells + f) = omega (arith, listed-length (cell_of (output_at tb)) 1464) in
+  line_byte f h =
+      let e : 1466 + f ≡ 2 + (length cells + f) = omega (arith, listed_length (cell_of (output_at tb)) 1464) in
       rw e (past (length cells + f) ∙ behind cells (lines ++ stuck) f
-      ∙ get_or-append lines stuck 0 f (omega (arith, listed-length (label_of tb.lines) 60)) ∙ listed-get (label_of tb.lines) 60 f h)
+      ∙ get_or-append lines stuck 0 f (omega (arith, listed_length (label_of tb.lines) 60)) ∙ listed_get (label_of tb.lines) 60 f h)
 
-  stuck-byte : (f : ℕ) → f < 60 → byte_at (bytes_of tb) 1526 f ≡ get_or tb.stuck f 0
+  stuck_byte : (f : ℕ) → f < 60 → byte_at (bytes_of tb) 1526 f ≡ get_or tb.stuck f 0
   unfolding byte_at label_of cells lines stuck
-  stuck-byte f h =
-      let e : 1526 + f ≡ 2 + (length cells + (length lines + f)) = omega (arith, listed-length (cell_of (output_at tb)) 1464, listed-length (label_of tb.lines) 60) in
-      rw e (past (length cells + (length lines + f)) ∙ behind cells (lines ++ stuck) (length lines + f) ∙ behind lines stuck f ∙ listed-get (label_of tb.stuck) 60 f h)
+  stuck_byte f h =
+      let e : 1526 + f ≡ 2 + (length cells + (length lines + f)) = omega (arith, listed_length (cell_of (output_at tb)) 1464, listed_length (label_of tb.lines) 60) in
+      rw e (past (length cells + (length lines + f)) ∙ behind cells (lines ++ stuck) (length lines + f) ∙ behind lines stuck f ∙ listed_get (label_of tb.stuck) 60 f h)
 
-  labels-back : (from : ℕ) (xs : List ℕ) → length xs ≡ 60 → ((f : ℕ) → f < 60 → byte_at (bytes_of tb) from f ≡ get_or xs f 0) → listed (byte_at (bytes_of tb) from) 60 ≡ xs
-  labels-back from xs long same =
-      let n = listed-length (byte_at (bytes_of tb) from) 60 in
+  labels_back : (from : ℕ) (xs : List ℕ) → length xs ≡ 60 → ((f : ℕ) → f < 60 → byte_at (bytes_of tb) from f ≡ get_or xs f 0) → listed (byte_at (bytes_of tb) from) 60 ≡ xs
+  labels_back from xs long same =
+      let n = listed_length (byte_at (bytes_of tb) from) 60 in
       ext_get_or 0 (listed (byte_at (bytes_of tb) from) 60) xs (n ∙ sym long) λ f l.
       let h : f < 60 = rw n at l in
-      listed-get (byte_at (bytes_of tb) from) 60 f h ∙ same f h
+      listed_get (byte_at (bytes_of tb) from) 60 f h ∙ same f h
 
   counts : (get_or (bytes_of tb) 0 0 ≡ tb.tests) × (get_or (bytes_of tb) 1 0 ≡ tb.faults)
   unfolding bytes_of
@@ -93,4 +93,4 @@ module _ (tb : Table) where
   unfolding table_of
   bytes_back o =
       let c : cells_filled (bytes_of tb) 1464 ≡ tb.cells = cells_same _ _ (filled_long (bytes_of tb) 1464) o.cells_long (λ t c h l. filled_at (bytes_of tb) t c h l 1464 (omega arith) (omega arith) ∙ cell_byte t c h l) in
-      rw (counts.0, counts.1, c, labels-back 1466 tb.lines o.lines_long line-byte, labels-back 1526 tb.stuck o.stuck_long stuck-byte) refl
+      rw (counts.0, counts.1, c, labels_back 1466 tb.lines o.lines_long line_byte, labels_back 1526 tb.stuck o.stuck_long stuck_byte) refl

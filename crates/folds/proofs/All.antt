@@ -47,10 +47,10 @@ module _ (Q : ℕ → Type 0) where
   all_right (x ∷ xs) ys h k l = all_right xs ys (λ k l. h (suc k) (omega arith)) k l
 
   module _ (p : ℕ → Bool) (g : ℕ → List ℕ) where
-    pub joined-all : (n : ℕ) → ((i : ℕ) → i < n → p i ≡ true → AllOf Q (g i)) → AllOf Q (joined p g n)
+    pub joined_all : (n : ℕ) → ((i : ℕ) → i < n → p i ≡ true → AllOf Q (g i)) → AllOf Q (joined p g n)
     unfolding joined
-    joined-all zero h k l = absurd (omega arith)
-    joined-all (suc n) h k l = all_append (joined p g n) (pick (p n) (g n) []) (joined-all n (λ i m. h i (omega arith))) (go (p n) refl) k l
+    joined_all zero h k l = absurd (omega arith)
+    joined_all (suc n) h k l = all_append (joined p g n) (pick (p n) (g n) []) (joined_all n (λ i m. h i (omega arith))) (go (p n) refl) k l
       where
         go : (b : Bool) → p n ≡ b → AllOf Q (pick b (g n) [])
         go true e = h n (omega arith) e
@@ -71,10 +71,10 @@ module _ (Q : ℕ → Type 0) where
   -- ---- single values
 
   module _ (p : ℕ → Bool) (f : ℕ → ℕ) (n : ℕ) where
-    pub gather-all : ((i : ℕ) → i < n → p i ≡ true → Q (f i)) → AllOf Q (gather p f n)
+    pub gather_all : ((i : ℕ) → i < n → p i ≡ true → Q (f i)) → AllOf Q (gather p f n)
     unfolding single
-    gather-all h = joined-all p (single f) n (λ i l e. all_of (f i ∷ []) (h i l e, tt))
+    gather_all h = joined_all p (single f) n (λ i l e. all_of (f i ∷ []) (h i l e, tt))
 
-    pub gather-at : AllOf Q (gather p f n) → (i : ℕ) → i < n → p i ≡ true → Q (f i)
+    pub gather_at : AllOf Q (gather p f n) → (i : ℕ) → i < n → p i ≡ true → Q (f i)
     unfolding single
-    gather-at h i l e = joined_at p (single f) n h i l e 0 (omega arith)
+    gather_at h i l e = joined_at p (single f) n h i l e 0 (omega arith)

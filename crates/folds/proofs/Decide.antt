@@ -34,22 +34,22 @@ decided_if (inr n) (inr m) = inl (λ w. absurd (n w))
 
 module _ (P : ℕ → Type 0) (d : (i : ℕ) → Decided (P i)) where
   -- all below n have it, or one lacks it
-  pub all-below : (n : ℕ) → ((i : ℕ) → i < n → P i) ⊎ ((i : ℕ) × (i < n) × (P i → ⊥))
-  all-below zero = inl (λ i l. absurd (omega arith))
-  all-below (suc n) = go (all-below n) (d n)
+  pub all_below : (n : ℕ) → ((i : ℕ) → i < n → P i) ⊎ ((i : ℕ) × (i < n) × (P i → ⊥))
+  all_below zero = inl (λ i l. absurd (omega arith))
+  all_below (suc n) = go (all_below n) (d n)
     where
       go : ((i : ℕ) → i < n → P i) ⊎ ((i : ℕ) × (i < n) × (P i → ⊥)) → Decided (P n) → ((i : ℕ) → i < suc n → P i) ⊎ ((i : ℕ) × (i < suc n) × (P i → ⊥))
       go (inr (i, l, no-i)) q = inr (i, omega arith, no-i)
       go (inl all) (inr no-n) = inr (n, omega arith, no-n)
       go (inl all) (inl q) = inl (λ i l. ⊎_elim (λ w. all i w) (λ e. subst P (sym e) q) (below_cases i n l))
 
-  pub decided-all : (n : ℕ) → Decided ((i : ℕ) → i < n → P i)
-  decided-all n = ⊎_elim (λ all. inl all) (λ w. inr (λ all. w.2 (all w.0 w.1))) (all-below n)
+  pub decided_all : (n : ℕ) → Decided ((i : ℕ) → i < n → P i)
+  decided_all n = ⊎_elim (λ all. inl all) (λ w. inr (λ all. w.2 (all w.0 w.1))) (all_below n)
 
   -- one below n has it, or none
-  pub decided-some : (n : ℕ) → Decided ((i : ℕ) × (i < n) × P i)
-  decided-some zero = inr (λ w. omega (arith, w.1))
-  decided-some (suc n) = go (decided-some n) (d n)
+  pub decided_some : (n : ℕ) → Decided ((i : ℕ) × (i < n) × P i)
+  decided_some zero = inr (λ w. omega (arith, w.1))
+  decided_some (suc n) = go (decided_some n) (d n)
     where
       go : Decided ((i : ℕ) × (i < n) × P i) → Decided (P n) → Decided ((i : ℕ) × (i < suc n) × P i)
       go (inl (i, l, w)) q = inl (i, omega arith, w)
@@ -69,38 +69,38 @@ module _ (P : ℕ → Type 0) (R : ℕ → ℕ → Type 0) where
     reflexive : (x : ℕ) → x < m → R x x
     reflexive x l = ⊎_elim (λ r. r) (λ r. r) (compare x x l l)
 
-    first-least : (n : ℕ) → n < m → ((y : ℕ) → y < n → P y → ⊥) → P n → LeastBelow (suc n) n
-    first-least n l none q = record {
+    first_least : (n : ℕ) → n < m → ((y : ℕ) → y < n → P y → ⊥) → P n → LeastBelow (suc n) n
+    first_least n l none q = record {
       below = omega arith;
       has = q;
       least = λ y w h. ⊎_elim (λ v. absurd (none y v h)) (λ e. subst (R n) (sym e) (reflexive n l)) (below_cases y n w);
     }
 
-    keep-least : (n x : ℕ) → LeastBelow n x → (P n → R x n) → LeastBelow (suc n) x
-    keep-least n x b r = record {
+    keep_least : (n x : ℕ) → LeastBelow n x → (P n → R x n) → LeastBelow (suc n) x
+    keep_least n x b r = record {
       below = omega (arith, b.below);
       has = b.has;
       least = λ y w h. ⊎_elim (λ v. b.least y v h) (λ e. subst (R x) (sym e) (r (subst P e h))) (below_cases y n w);
     }
 
-    take-least : (n x : ℕ) → n < m → LeastBelow n x → P n → R n x → LeastBelow (suc n) n
-    take-least n x l b q r = record {
+    take_least : (n x : ℕ) → n < m → LeastBelow n x → P n → R n x → LeastBelow (suc n) n
+    take_least n x l b q r = record {
       below = omega arith;
       has = q;
       least = λ y w h. ⊎_elim (λ v. trans n x y r (b.least y v h)) (λ e. subst (R n) (sym e) (reflexive n l)) (below_cases y n w);
     }
 
     -- no number below n has P, or there is a least one
-    pub least-or-none : (n : ℕ) → n ≤ m → ((x : ℕ) × LeastBelow n x) ⊎ ((y : ℕ) → y < n → P y → ⊥)
-    least-or-none zero l = inr (λ y w h. omega arith)
-    least-or-none (suc n) l = go (least-or-none n (omega arith)) (d n)
+    pub least_or_none : (n : ℕ) → n ≤ m → ((x : ℕ) × LeastBelow n x) ⊎ ((y : ℕ) → y < n → P y → ⊥)
+    least_or_none zero l = inr (λ y w h. omega arith)
+    least_or_none (suc n) l = go (least_or_none n (omega arith)) (d n)
       where
         go : ((x : ℕ) × LeastBelow n x) ⊎ ((y : ℕ) → y < n → P y → ⊥) → Decided (P n) → ((x : ℕ) × LeastBelow (suc n) x) ⊎ ((y : ℕ) → y < suc n → P y → ⊥)
-        go (inr none) (inl q) = inl (n, first-least n l none q)
+        go (inr none) (inl q) = inl (n, first_least n l none q)
         go (inr none) (inr no-n) = inr (λ y w h. ⊎_elim (λ v. none y v h) (λ e. no-n (subst P e h)) (below_cases y n w))
-        go (inl (x, b)) (inr no-n) = inl (x, keep-least n x b (λ q. absurd (no-n q)))
+        go (inl (x, b)) (inr no-n) = inl (x, keep_least n x b (λ q. absurd (no-n q)))
         go (inl (x, b)) (inl q) =
-            ⊎_elim (λ r. inl (x, keep-least n x b (λ w. r))) (λ r. inl (n, take-least n x l b q r)) (compare x n (omega (arith, b.below)) l)
+            ⊎_elim (λ r. inl (x, keep_least n x b (λ w. r))) (λ r. inl (n, take_least n x l b q r)) (compare x n (omega (arith, b.below)) l)
 
-    pub least-exists : (n y : ℕ) → n ≤ m → y < n → P y → (x : ℕ) × LeastBelow n x
-    least-exists n y l w h = ⊎_elim (λ x. x) (λ none. absurd (none y w h)) (least-or-none n l)
+    pub least_exists : (n y : ℕ) → n ≤ m → y < n → P y → (x : ℕ) × LeastBelow n x
+    least_exists n y l w h = ⊎_elim (λ x. x) (λ none. absurd (none y w h)) (least_or_none n l)

@@ -28,12 +28,12 @@ module _ (p : ℕ → Bool) where
 
   -- ---- a loop `while i < n { if test(i) { return true; } i += 1; } false`, with the invariant some p i ≡ false
 
-  pub some-start : (n : ℕ) → (0 ≤ n) × (some p 0 ≡ false)
+  pub some_start : (n : ℕ) → (0 ≤ n) × (some p 0 ≡ false)
   unfolding some
-  some-start n = (omega arith, refl)
+  some_start n = (omega arith, refl)
 
-  pub some-stop : (n i : ℕ) (r : Bool) → i < n → r ≡ p i → r ≡ true → true ≡ some p n
-  some-stop n i r h e q = sym (some_of n i h (sym e ∙ q))
+  pub some_stop : (n i : ℕ) (r : Bool) → i < n → r ≡ p i → r ≡ true → true ≡ some p n
+  some_stop n i r h e q = sym (some_of n i h (sym e ∙ q))
 
   pub some_turn : (i : ℕ) (r : Bool) → some p i ≡ false → r ≡ p i → r ≡ false → some p (i + 1) ≡ false
   unfolding some
@@ -42,4 +42,4 @@ module _ (p : ℕ → Bool) where
   pub some_end : (n i : ℕ) → i ≤ n → n ≤ i → some p i ≡ false → false ≡ some p n
   some_end n i h k e = sym e ∙ ap (some p) (le_antisymm h k)
 
-pub ruleset finds = (some-start, some-stop, some_turn, some_end)
+pub ruleset finds = (some_start, some_stop, some_turn, some_end)

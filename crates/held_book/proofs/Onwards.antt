@@ -4,7 +4,7 @@ use mathlib.Core.Path.{◌≡◌, ◌∙◌}
 use Prim.Native.Nat.{ℕ}
 use Rattle.book.specs.Given.{Reached, begun, read}
 use Rattle.book.specs.Sound.{record_at}
-use Rattle.records.specs.Step.{start, stepAt}
+use Rattle.records.specs.Step.{start, step_at}
 use Rattle.records.specs.declared.Outcome.TheVariants.{Given}
 use Rattle.records.specs.declared.Record.{Record}
 use Rattle.records.specs.declared.SoFar.{SoFar}
@@ -17,7 +17,7 @@ sets_out book sofar e = rw e begun
 
 module _ (book : List ℕ) (place : ℕ) (sofar : SoFar) (s : Stepped) (w : Reached book place sofar) (e : s ≡ record_at book place sofar) where
   -- what has been read so far passes the test
-  pub as_step : s ≡ stepAt book place sofar
+  pub as_step : s ≡ step_at book place sofar
   as_step = e ∙ reached_call w
 
   pub reaches : (x : Record) → s.outcome ≡ Given x → Reached book s.place s.sofar

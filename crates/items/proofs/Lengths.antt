@@ -6,7 +6,7 @@ use Prim.Native.Nat.{ℕ, zero, suc, ◌+◌, ◌*◌, ◌^◌, ◌≤◌, ◌<�
 use native.Mathlib.Omega.{arith}
 use lib.Dec.{eqb}
 use lib.ListN.{get_or, length, length-append}
-use Rattle.folds.proofs.Joined.{joined-none}
+use Rattle.folds.proofs.Joined.{joined_none}
 use Rattle.folds.proofs.Lengths.{length_of, rows_more, rows_most, total_first, total_most, total_once, total_plus, total_zero, when_length}
 use Rattle.folds.proofs.Total.{total_more}
 use Rattle.folds.specs.Fold.{count, joined, pick, total}
@@ -44,7 +44,7 @@ members_length lines stuck of n k = length (members_text lines stuck of n k)
 members_total : (lines stuck of : List ℕ) (n m : ℕ) → total (members_length lines stuck of n) m ≤ total (length_of (member_text lines stuck)) n
 unfolding members_text in_class length_of
 members_total lines stuck of zero m =
-    omega (arith, total_zero (members_length lines stuck of 0) m (λ k l. rw (joined-none (in_class of k) (member_text lines stuck)) refl))
+    omega (arith, total_zero (members_length lines stuck of 0) m (λ k l. rw (joined_none (in_class of k) (member_text lines stuck)) refl))
 members_total lines stuck of (suc n) m =
     omega (
       arith,

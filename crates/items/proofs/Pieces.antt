@@ -16,13 +16,13 @@ unfolding spaced
 spaced_done at n r r' b b' b'' v w = writes_then at r r' (32 ∷ []) (decimal_of n) b b' b'' v w
 
 module _ (p : ℕ → Bool) (item : ℕ → List ℕ) (n k at r : ℕ) (b b' : List ℕ) (e : k ≡ count p n) where
-  pub list-none : k ≡ 0 → Writes at none_word b r b' → Writes at (list_text p item n) b r b'
+  pub list_none : k ≡ 0 → Writes at none_word b r b' → Writes at (list_text p item n) b r b'
   unfolding list_text
-  list-none z w = rw (eq-eqb (count p n) 0 (sym e ∙ z)) w
+  list_none z w = rw (eq-eqb (count p n) 0 (sym e ∙ z)) w
 
-  pub list-some : (k ≡ 0 → ⊥) → Writes at (joined p item n) b r b' → Writes at (list_text p item n) b r b'
+  pub list_some : (k ≡ 0 → ⊥) → Writes at (joined p item n) b r b' → Writes at (list_text p item n) b r b'
   unfolding list_text
-  list-some ne w = rw (ne_eqb (count p n) 0 (λ z. ne (e ∙ z))) w
+  list_some ne w = rw (ne_eqb (count p n) 0 (λ z. ne (e ∙ z))) w
 
 pub output_done : (out : ℕ → ℕ → ℕ) (c t v n at r : ℕ) (b b' : List ℕ) → v ≡ out t c → n ≡ v → Writes at (spaced n) b r b' → Writes at (output_item out c t) b r b'
 unfolding output_item

@@ -33,26 +33,26 @@ writes_pins earlier answer d r₁ r₂ e₁ e₂ a b =
 -- ---- whether the buffer has room
 
 module _ (answer d : List ℕ) where
-  pub room-enough : length answer ≤ length d → room_number 0 answer d ≡ 0
+  pub room_enough : length answer ≤ length d → room_number 0 answer d ≡ 0
   unfolding room_number
-  room-enough h = rw (le-leb (length answer) (length d) h)
+  room_enough h = rw (le-leb (length answer) (length d) h)
 
-  pub room-short : length d < length answer → room_number 0 answer d ≡ 24
+  pub room_short : length d < length answer → room_number 0 answer d ≡ 24
   unfolding room_number
-  room-short h = rw (lt-leb (length answer) (length d) h)
+  room_short h = rw (lt-leb (length answer) (length d) h)
 
-  pub room-had : 0 ≡ room_number 0 answer d → length answer ≤ length d
+  pub room_had : 0 ≡ room_number 0 answer d → length answer ≤ length d
   unfolding room_number
-  room-had e = go (leb (length answer) (length d)) refl e
+  room_had e = go (leb (length answer) (length d)) refl e
     where
       go : (b : Bool) → leb (length answer) (length d) ≡ b → ◌≡◌ {A = ℕ} 0 (pick b 0 24) → length answer ≤ length d
       go true q h = leb-true _ _ q
       go false q h = absurd (omega arith)
 
   -- a call that is refused earlier keeps its number
-  pub room-refused : (earlier : ℕ) → eqb earlier 0 ≡ false → room_number earlier answer d ≡ earlier
+  pub room_refused : (earlier : ℕ) → eqb earlier 0 ≡ false → room_number earlier answer d ≡ earlier
   unfolding room_number
-  room-refused earlier e = rw e
+  room_refused earlier e = rw e
 
 -- a table for which a call writes is well formed
 pub wrote_formed : (tb : Table) (s : ℕ) (answer d : List ℕ) → 0 ≡ room_number (set_number tb s) answer d → WellFormed tb
@@ -66,30 +66,30 @@ wrote_formed tb s answer d e = by (well_formed tb) refl
 -- ---- the returns of a call on a table and a set, in their order; d is what the buffer held
 
 module _ (tb : Table) (s : ℕ) (answer d : List ℕ) (r : Bool) (t : Tested tb r) where
-  pub writes-20 : not r ≡ true → WritesOnto (set_number tb s) answer d (Refused NotWellFormed) d
+  pub writes_20 : not r ≡ true → WritesOnto (set_number tb s) answer d (Refused NotWellFormed) d
   unfolding set_number room_number
-  writes-20 q = record { number = rw (rejected tb r t q); count = refl; buffer = refl }
+  writes_20 q = record { number = rw (rejected tb r t q); count = refl; buffer = refl }
 
   module _ (q : not r ≡ false) (r₂ : Bool) (e₂ : r₂ ≡ within s tb.tests) where
-    pub writes-21 : not r₂ ≡ true → WritesOnto (set_number tb s) answer d (Refused UnknownTest) d
+    pub writes_21 : not r₂ ≡ true → WritesOnto (set_number tb s) answer d (Refused UnknownTest) d
     unfolding set_number room_number
-    writes-21 q₂ = record { number = rw (accepted tb r t q, ← e₂, not-true r₂ q₂); count = refl; buffer = refl }
+    writes_21 q₂ = record { number = rw (accepted tb r t q, ← e₂, not-true r₂ q₂); count = refl; buffer = refl }
 
     module _ (q₂ : not r₂ ≡ false) (n : ℕ) (e : n ≡ length answer) where
-      pub writes-24 : length d < n → WritesOnto (set_number tb s) answer d (Refused BufferShort) d
+      pub writes_24 : length d < n → WritesOnto (set_number tb s) answer d (Refused BufferShort) d
       unfolding set_number room_number
-      writes-24 w = record { number = rw (accepted tb r t q, ← e₂, not-false r₂ q₂, ← e, lt-leb n (length d) w); count = refl; buffer = refl }
+      writes_24 w = record { number = rw (accepted tb r t q, ← e₂, not-false r₂ q₂, ← e, lt-leb n (length d) w); count = refl; buffer = refl }
 
-      pub writes-0 : n ≤ length d → (d' : List ℕ) → d' ≡ onto answer d → WritesOnto (set_number tb s) answer d (Bytes n) d'
+      pub writes_0 : n ≤ length d → (d' : List ℕ) → d' ≡ onto answer d → WritesOnto (set_number tb s) answer d (Bytes n) d'
       unfolding set_number room_number
-      writes-0 w d' h = record { number = rw (accepted tb r t q, ← e₂, not-false r₂ q₂, ← e, le-leb n (length d) w); count = e; buffer = h }
+      writes_0 w d' h = record { number = rw (accepted tb r t q, ← e₂, not-false r₂ q₂, ← e, le-leb n (length d) w); count = e; buffer = h }
 
 -- ---- what an accepted call leaves
 
 module _ (earlier : ℕ) (answer d : List ℕ) (n : ℕ) (e : List ℕ) (a : WritesOnto earlier answer d (Bytes n) e) where
   -- each part of the answer stands in the buffer,
-  pub writes-part : (m k : ℕ) → m + k ≤ length answer → take k (drop m e) ≡ take k (drop m answer)
-  writes-part m k h = rw a.buffer (onto_slice answer d m k h)
+  pub writes_part : (m k : ℕ) → m + k ≤ length answer → take k (drop m e) ≡ take k (drop m answer)
+  writes_part m k h = rw a.buffer (onto_slice answer d m k h)
 
   -- and each byte
   pub writes_byte : (i : ℕ) → i < length answer → get_or e i 0 ≡ get_or answer i 0

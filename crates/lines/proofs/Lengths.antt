@@ -5,7 +5,7 @@ use Prim.Native.Nat.{ℕ, ◌+◌, ◌≤◌, ◌<◌}
 use native.Mathlib.Omega.{arith}
 use lib.ListN.{length, length-append}
 use Rattle.table.proofs.Stored.{cell_byte}
-use Rattle.classes.proofs.Meaning.{count-given}
+use Rattle.classes.proofs.Meaning.{count_given}
 use Rattle.classes.specs.Classes.{classes_of}
 use Rattle.folds.specs.Fold.{always, first}
 use Rattle.folds.proofs.Lengths.{length_of, rows_total, total_most}
@@ -25,40 +25,40 @@ longest = 7364
 module _ (tb : Table) (w : WellFormed tb) (o : OfType tb) where
   -- ---- lines
 
-  class-most : (of : List ℕ) (s k : ℕ) → k < 61 → length (class_line tb of s k) ≤ 109 + members_length tb.lines tb.stuck of (columns tb) k
+  class_most : (of : List ℕ) (s k : ℕ) → k < 61 → length (class_line tb of s k) ≤ 109 + members_length tb.lines tb.stuck of (columns tb) k
   unfolding class_line class_head class_tail
-  class-most of s k h = simp length-append (omega (
+  class_most of s k h = simp length-append (omega (
     arith,
     spaced_most 1 k (omega arith),
     signature_most (output_at tb) tb.tests s (first (in_class of k) (columns tb)) w.tests_fit (cell_byte tb.cells o.cells_bytes),
   ))
 
-  classes-most : (of : List ℕ) (s n : ℕ) → n ≤ 61 → length (class_lines tb of s n) ≤ 7014
+  classes_most : (of : List ℕ) (s n : ℕ) → n ≤ 61 → length (class_lines tb of s n) ≤ 7014
   unfolding class_lines length_of
-  classes-most of s n h = omega (
+  classes_most of s n h = omega (
     arith,
     rows_total always (class_line tb of s) n,
-    total_most (length_of (class_line tb of s)) (members_length tb.lines tb.stuck of (columns tb)) 109 n (λ k l. class-most of s k (omega arith)),
+    total_most (length_of (class_line tb of s)) (members_length tb.lines tb.stuck of (columns tb)) 109 n (λ k l. class_most of s k (omega arith)),
     members_most tb.lines tb.stuck of tb.faults n w.faults_fit o.lines_bytes w.stuck_fit,
   )
 
-  set-most : (word : List ℕ) (s : ℕ) → length (set_line word s tb.tests) ≤ length word + 73
+  set_most : (word : List ℕ) (s : ℕ) → length (set_line word s tb.tests) ≤ length word + 73
   unfolding set_line
-  set-most word s = simp length-append (omega (arith, tests_most s tb.tests w.tests_fit))
+  set_most word s = simp length-append (omega (arith, tests_most s tb.tests w.tests_fit))
 
-  sets-most : (aside essential detect diagnose : ℕ) → length (set_lines tb.tests aside essential detect diagnose) ≤ 320
+  sets_most : (aside essential detect diagnose : ℕ) → length (set_lines tb.tests aside essential detect diagnose) ≤ 320
   unfolding set_lines
-  sets-most aside essential detect diagnose = simp length-append (omega (
+  sets_most aside essential detect diagnose = simp length-append (omega (
     arith,
-    set-most aside_word aside,
-    set-most essential_word essential,
-    set-most detect_word detect,
-    set-most diagnose_word diagnose,
+    set_most aside_word aside,
+    set_most essential_word essential,
+    set_most detect_word detect,
+    set_most diagnose_word diagnose,
   ))
 
-  sizes-most : (n : ℕ) → n ≤ 61 → length (sizes_line tb.tests tb.faults n) ≤ 30
+  sizes_most : (n : ℕ) → n ≤ 61 → length (sizes_line tb.tests tb.faults n) ≤ 30
   unfolding sizes_line
-  sizes-most n h = simp length-append (omega (
+  sizes_most n h = simp length-append (omega (
     arith,
     spaced_most 1 tb.tests (omega (arith, w.tests_fit)),
     spaced_most 1 tb.faults (omega (arith, w.faults_fit)),
@@ -66,15 +66,15 @@ module _ (tb : Table) (w : WellFormed tb) (o : OfType tb) where
   ))
 
   few : (classes_of tb).count ≤ 61
-  few = omega (arith, count-given tb (tested tb w) (classes_of tb) refl, few_classes tb w)
+  few = omega (arith, count_given tb (tested tb w) (classes_of tb) refl, few_classes tb w)
 
-  pub table-most : (aside essential detect diagnose : ℕ) → length (table_text tb aside essential detect diagnose) ≤ longest
+  pub table_most : (aside essential detect diagnose : ℕ) → length (table_text tb aside essential detect diagnose) ≤ longest
   unfolding table_text
-  table-most aside essential detect diagnose = simp length-append (omega (
+  table_most aside essential detect diagnose = simp length-append (omega (
     arith,
-    sizes-most (classes_of tb).count few,
-    sets-most aside essential detect diagnose,
-    classes-most (classes_of tb).of diagnose (classes_of tb).count few,
+    sizes_most (classes_of tb).count few,
+    sets_most aside essential detect diagnose,
+    classes_most (classes_of tb).of diagnose (classes_of tb).count few,
   ))
 
 -- ---- a refused book

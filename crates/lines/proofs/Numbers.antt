@@ -4,7 +4,7 @@ use mathlib.Core.Logic.{⊎_elim}
 use mathlib.Core.Path.{◌≡◌, ◌∙◌}
 use Prim.Native.Nat.{ℕ, ◌≤◌, ◌<◌}
 use native.Mathlib.Omega.{arith}
-use Rattle.classes.proofs.Meaning.{class-given, count-given}
+use Rattle.classes.proofs.Meaning.{class_given, count_given}
 use Rattle.classes.specs.Classes.{classes_of}
 use Rattle.folds.proofs.Below.{lt_or_ge}
 use Rattle.folds.proofs.Bools.{clash}
@@ -18,7 +18,7 @@ use Rattle.table.specs.Table.{columns, output_at}
 use Rattle.table.specs.WellFormed.{WellFormed}
 use Rattle.table.specs.declared.Classes.{Classes}
 use Rattle.table.specs.declared.Table.{Table}
-use Rattle.terms_laws.proofs.Classes.{class-reaches}
+use Rattle.terms_laws.proofs.Classes.{class_reaches}
 
 first_at : (p : ℕ → Bool) (n c : ℕ) → c < n → p c ≡ true → first p n < n
 first_at p n c l h = ⊎_elim (λ (w : c < first p n). clash (p c) h (first_below p n c w)) (λ (w : first p n ≤ c). omega arith) (lt_or_ge c (first p n))
@@ -26,6 +26,6 @@ first_at p n c l h = ⊎_elim (λ (w : c < first p n). clash (p c) h (first_belo
 pub numbered : (tb : Table) (r : Classes) → WellFormed tb → r ≡ classes_of tb → Numbered tb r.of r.count
 numbered tb r w e = record {
   has = λ k l.
-      let x = class-reaches (output_at tb) tb.tests (columns tb) k (omega (arith, count-given tb (tested tb w) r e)) in
-      first_at (in_class r.of k) (columns tb) x.0 x.1 (class_is r.of k x.0 (class-given tb (tested tb w) r e x.0 x.1 ∙ x.2));
+      let x = class_reaches (output_at tb) tb.tests (columns tb) k (omega (arith, count_given tb (tested tb w) r e)) in
+      first_at (in_class r.of k) (columns tb) x.0 x.1 (class_is r.of k x.0 (class_given tb (tested tb w) r e x.0 x.1 ∙ x.2));
 }

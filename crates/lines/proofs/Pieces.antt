@@ -16,22 +16,22 @@ use Rattle.text.specs.Text.{Writes}
 -- ---- lines
 
 module _ (at a b c d : ℕ) (b₀ b₁ b₂ b₃ b₄ : List ℕ) where
-  pub refused-done : (number place r : ℕ) (b₅ : List ℕ) → Writes at refused_word b₀ a b₁ → Writes a (spaced number) b₁ b b₂ → Writes b at_word b₂ c b₃ → Writes c (spaced place) b₃ d b₄ → Writes d newline b₄ r b₅
+  pub refused_done : (number place r : ℕ) (b₅ : List ℕ) → Writes at refused_word b₀ a b₁ → Writes a (spaced number) b₁ b b₂ → Writes b at_word b₂ c b₃ → Writes c (spaced place) b₃ d b₄ → Writes d newline b₄ r b₅
       → Writes at (refused_text number place) b₀ r b₅
   unfolding refused_text
-  refused-done number place r b₅ w₁ w₂ w₃ w₄ w₅ =
+  refused_done number place r b₅ w₁ w₂ w₃ w₄ w₅ =
       writes_then at a r _ _ b₀ b₁ b₅ w₁ (writes_then a b r _ _ b₁ b₂ b₅ w₂ (writes_then b c r _ _ b₂ b₃ b₅ w₃ (writes_then c d r _ _ b₃ b₄ b₅ w₄ w₅)))
 
-  pub sizes-done : (tests faults classes e f r : ℕ) (b₅ b₆ b₇ : List ℕ) → Writes at tests_word b₀ a b₁ → Writes a (spaced tests) b₁ b b₂ → Writes b faults_word b₂ c b₃ → Writes c (spaced faults) b₃ d b₄
+  pub sizes_done : (tests faults classes e f r : ℕ) (b₅ b₆ b₇ : List ℕ) → Writes at tests_word b₀ a b₁ → Writes a (spaced tests) b₁ b b₂ → Writes b faults_word b₂ c b₃ → Writes c (spaced faults) b₃ d b₄
       → Writes d classes_word b₄ e b₅ → Writes e (spaced classes) b₅ f b₆ → Writes f newline b₆ r b₇ → Writes at (sizes_line tests faults classes) b₀ r b₇
   unfolding sizes_line
-  sizes-done tests faults classes e f r b₅ b₆ b₇ w₁ w₂ w₃ w₄ w₅ w₆ w₇ =
+  sizes_done tests faults classes e f r b₅ b₆ b₇ w₁ w₂ w₃ w₄ w₅ w₆ w₇ =
       writes_then at a r _ _ b₀ b₁ b₇ w₁ (writes_then a b r _ _ b₁ b₂ b₇ w₂ (writes_then b c r _ _ b₂ b₃ b₇ w₃
       (writes_then c d r _ _ b₃ b₄ b₇ w₄ (writes_then d e r _ _ b₄ b₅ b₇ w₅ (writes_then e f r _ _ b₅ b₆ b₇ w₆ w₇)))))
 
-  pub set-done : (word : List ℕ) (s tests : ℕ) → Writes at word b₀ a b₁ → Writes a (tests_text s tests) b₁ b b₂ → Writes b newline b₂ c b₃ → Writes at (set_line word s tests) b₀ c b₃
+  pub set_done : (word : List ℕ) (s tests : ℕ) → Writes at word b₀ a b₁ → Writes a (tests_text s tests) b₁ b b₂ → Writes b newline b₂ c b₃ → Writes at (set_line word s tests) b₀ c b₃
   unfolding set_line
-  set-done word s tests w₁ w₂ w₃ = writes_then at a c _ _ b₀ b₁ b₃ w₁ (writes_then a b c _ _ b₁ b₂ b₃ w₂ w₃)
+  set_done word s tests w₁ w₂ w₃ = writes_then at a c _ _ b₀ b₁ b₃ w₁ (writes_then a b c _ _ b₁ b₂ b₃ w₂ w₃)
 
 pub head_done : (k at a b r : ℕ) (b₀ b₁ b₂ b₃ : List ℕ) → Writes at class_word b₀ a b₁ → Writes a (spaced k) b₁ b b₂ → Writes b colon_word b₂ r b₃ → Writes at (class_head k) b₀ r b₃
 unfolding class_head

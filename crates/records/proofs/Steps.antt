@@ -15,7 +15,7 @@ use Rattle.records.specs.declared.Outcome.TheVariants.{Given}
 use Rattle.records.specs.declared.Record.{Record}
 use Rattle.records.specs.declared.SoFar.{SoFar}
 use Rattle.records.specs.declared.Stepped.{Stepped}
-use Rattle.records.specs.Step.{Check, Rule, CountsFit, rank_of, refused_at, accepted_at, first_of, judged, testRule, faultRule, responseRule, endRule, unknownRule, edgeRule, kindRule, ruleAt, stepAt}
+use Rattle.records.specs.Step.{Check, Rule, CountsFit, rank_of, refused_at, accepted_at, first_of, judged, test_rule, fault_rule, response_rule, end_rule, unknown_rule, edge_rule, kind_rule, rule_at, step_at}
 
 -- no check of the list holds
 abbrev pub AllPast : List Check → Type 0
@@ -39,10 +39,10 @@ way P false x y f g = g refl
 
 -- which record a step gives: its kind byte, and the checks that it passed
 pub data Gives (book : List ℕ) (place : ℕ) (sofar : SoFar) : Stepped → Type 0 where
-  test : get_or book place 0 ≡ 0x54 → AllPast (testRule book place sofar).checks → Gives book place sofar (testRule book place sofar).gives
-  fault : get_or book place 0 ≡ 0x46 → AllPast (faultRule book place sofar).checks → Gives book place sofar (faultRule book place sofar).gives
-  response : get_or book place 0 ≡ 0x52 → AllPast (responseRule book place sofar).checks → Gives book place sofar (responseRule book place sofar).gives
-  ending : get_or book place 0 ≡ 0x45 → AllPast (endRule book place sofar).checks → Gives book place sofar (endRule book place sofar).gives
+  test : get_or book place 0 ≡ 0x54 → AllPast (test_rule book place sofar).checks → Gives book place sofar (test_rule book place sofar).gives
+  fault : get_or book place 0 ≡ 0x46 → AllPast (fault_rule book place sofar).checks → Gives book place sofar (fault_rule book place sofar).gives
+  response : get_or book place 0 ≡ 0x52 → AllPast (response_rule book place sofar).checks → Gives book place sofar (response_rule book place sofar).gives
+  ending : get_or book place 0 ≡ 0x45 → AllPast (end_rule book place sofar).checks → Gives book place sofar (end_rule book place sofar).gives
 
 pub data Steps (book : List ℕ) (place : ℕ) (sofar : SoFar) : Stepped → Type 0 where
   refuses : (why : Refusal) → Steps book place sofar (refused_at why place)
@@ -56,31 +56,31 @@ module _ (book : List ℕ) (place : ℕ) (sofar : SoFar) where
   abbrev J : Rule → Type 0
   J r = Steps book place sofar (judged r place)
 
-  at_edge : J (edgeRule book place sofar)
-  unfolding edgeRule
-  at_edge = judgement S (edgeRule book place sofar).checks place (edgeRule book place sofar).gives refuses
+  at_edge : J (edge_rule book place sofar)
+  unfolding edge_rule
+  at_edge = judgement S (edge_rule book place sofar).checks place (edge_rule book place sofar).gives refuses
       λ k. accepts (ltb-false place (length book) k.1.0) (not-false (eqb (rank_of sofar.stage) 3) k.0)
 
-  of-kind : place < length book → eqb (rank_of sofar.stage) 3 ≡ false → J (kindRule book place sofar (get_or book place 0))
-  unfolding kindRule unknownRule
-  of-kind l u =
+  of_kind : place < length book → eqb (rank_of sofar.stage) 3 ≡ false → J (kind_rule book place sofar (get_or book place 0))
+  unfolding kind_rule unknown_rule
+  of_kind l u =
       way J (eqb (get_or book place 0) 0x54) _ _ (λ h. judgement S _ place _ refuses (λ k. gives l u (test (eqb-true _ _ h) k))) λ _.
       way J (eqb (get_or book place 0) 0x46) _ _ (λ h. judgement S _ place _ refuses (λ k. gives l u (fault (eqb-true _ _ h) k))) λ _.
       way J (eqb (get_or book place 0) 0x52) _ _ (λ h. judgement S _ place _ refuses (λ k. gives l u (response (eqb-true _ _ h) k))) λ _.
       way J (eqb (get_or book place 0) 0x45) _ _ (λ h. judgement S _ place _ refuses (λ k. gives l u (ending (eqb-true _ _ h) k))) λ _.
       unknown
     where
-      unknown : J (unknownRule book place sofar)
+      unknown : J (unknown_rule book place sofar)
       unknown = judgement S _ place _ refuses (λ k. refuses UnknownKind)
 
-  pub steps : Steps book place sofar (stepAt book place sofar)
-  unfolding stepAt ruleAt
+  pub steps : Steps book place sofar (step_at book place sofar)
+  unfolding step_at rule_at
   steps = go (leb (length book) place) (eqb (rank_of sofar.stage) 3) refl refl
     where
-      go : (a b : Bool) → leb (length book) place ≡ a → eqb (rank_of sofar.stage) 3 ≡ b → J (pick (either a b) (edgeRule book place sofar) (kindRule book place sofar (get_or book place 0)))
+      go : (a b : Bool) → leb (length book) place ≡ a → eqb (rank_of sofar.stage) 3 ≡ b → J (pick (either a b) (edge_rule book place sofar) (kind_rule book place sofar (get_or book place 0)))
       go true b h u = at_edge
       go false true h u = at_edge
-      go false false h u = of-kind (leb-false (length book) place h) u
+      go false false h u = of_kind (leb-false (length book) place h) u
 
 -- what a step that gives a record keeps
 pub record Goes (book : List ℕ) (place : ℕ) (s : Stepped) : Type 0 where
@@ -89,7 +89,7 @@ pub record Goes (book : List ℕ) (place : ℕ) (s : Stepped) : Type 0 where
   pub counts : CountsFit s.sofar
 
 gives_goes : {book : List ℕ} {place : ℕ} {sofar : SoFar} {s : Stepped} → CountsFit sofar → Gives book place sofar s → Goes book place s
-unfolding testRule faultRule responseRule endRule
+unfolding test_rule fault_rule response_rule end_rule
 gives_goes c (test h k) = record { further = omega arith; inside = omega (arith, ltb-false); counts = record { tests = omega (arith, leb-false); faults = c.faults } }
 gives_goes c (fault h k) = record { further = omega arith; inside = omega (arith, ltb-false); counts = record { tests = c.tests; faults = omega (arith, leb-false) } }
 gives_goes c (response h k) = record { further = omega arith; inside = omega (arith, ltb-false); counts = record { tests = c.tests; faults = c.faults } }

@@ -97,8 +97,8 @@ module _ (book : List ℕ) (place : ℕ) (sofar : SoFar) where
   cut n = ltb (length book) (place + n)
 
   -- "54 hex | 1 byte | next test: its correct output"
-  unfoldable pub testRule : Rule
-  testRule = rule
+  unfoldable pub test_rule : Rule
+  test_rule = rule
       (check BodyCut (cut 2)
       -- "a test after a fault or response"
       ∷ check OutOfPlace (ltb 0 rank)
@@ -108,8 +108,8 @@ module _ (book : List ℕ) (place : ℕ) (sofar : SoFar) where
       (given_at (Test (byte 1)) (place + 2) (with_test tb (byte 1)) Tests)
 
   -- "46 hex | 2 bytes | next fault: line, stuck value"
-  unfoldable pub faultRule : Rule
-  faultRule = rule
+  unfoldable pub fault_rule : Rule
+  fault_rule = rule
       (check BodyCut (cut 3)
       -- "a fault after a response"
       ∷ check OutOfPlace (ltb 1 rank)
@@ -123,8 +123,8 @@ module _ (book : List ℕ) (place : ℕ) (sofar : SoFar) where
       (given_at (Fault (byte 1) (byte 2)) (place + 3) (with_fault tb (byte 1) (byte 2)) Faults)
 
   -- "52 hex | 3 bytes | response: test, fault, output"
-  unfoldable pub responseRule : Rule
-  responseRule = rule
+  unfoldable pub response_rule : Rule
+  response_rule = rule
       (check BodyCut (cut 4)
       -- "a response names a test or fault that the book lacks"
       ∷ check NotInBook (leb tb.tests (byte 1))
@@ -137,8 +137,8 @@ module _ (book : List ℕ) (place : ℕ) (sofar : SoFar) where
       (given_at (Response (byte 1) (byte 2) (byte 3)) (place + 4) (with_response tb (byte 1) (byte 2) (byte 3)) (Responses (byte 2) (byte 1)))
 
   -- "45 hex | 2 bytes | end: number of tests, number of faults"
-  unfoldable pub endRule : Rule
-  endRule = rule
+  unfoldable pub end_rule : Rule
+  end_rule = rule
       (check BodyCut (cut 3)
       -- "the end's counts are not those read"
       ∷ check WrongCounts (not (eqb (byte 1) tb.tests))
@@ -147,12 +147,12 @@ module _ (book : List ℕ) (place : ℕ) (sofar : SoFar) where
       (given_at (End (byte 1) (byte 2)) (place + 3) tb Ended)
 
   -- "every other value of the kind byte"
-  unfoldable pub unknownRule : Rule
-  unknownRule = rule (check UnknownKind true ∷ []) (refused_at UnknownKind place)
+  unfoldable pub unknown_rule : Rule
+  unknown_rule = rule (check UnknownKind true ∷ []) (refused_at UnknownKind place)
 
   -- at the book's end, or past the end record
-  unfoldable pub edgeRule : Rule
-  edgeRule = rule
+  unfoldable pub edge_rule : Rule
+  edge_rule = rule
       -- "the book stops at a record's edge with no end record"
       (check NoEnd (not (eqb rank 3))
       -- "a byte follows the end"
@@ -161,17 +161,17 @@ module _ (book : List ℕ) (place : ℕ) (sofar : SoFar) where
       (accepted_at place sofar)
 
   -- by the kind byte
-  unfoldable pub kindRule : ℕ → Rule
-  kindRule kind =
-      pick (eqb kind 0x54) testRule
-      (pick (eqb kind 0x46) faultRule
-      (pick (eqb kind 0x52) responseRule
-      (pick (eqb kind 0x45) endRule
-      unknownRule)))
+  unfoldable pub kind_rule : ℕ → Rule
+  kind_rule kind =
+      pick (eqb kind 0x54) test_rule
+      (pick (eqb kind 0x46) fault_rule
+      (pick (eqb kind 0x52) response_rule
+      (pick (eqb kind 0x45) end_rule
+      unknown_rule)))
 
-  unfoldable pub ruleAt : Rule
-  ruleAt = pick (either (leb (length book) place) (eqb rank 3)) edgeRule (kindRule (get_or book place 0))
+  unfoldable pub rule_at : Rule
+  rule_at = pick (either (leb (length book) place) (eqb rank 3)) edge_rule (kind_rule (get_or book place 0))
 
   -- the step of the cursor
-  unfoldable pub stepAt : Stepped
-  stepAt = judged ruleAt place
+  unfoldable pub step_at : Stepped
+  step_at = judged rule_at place

@@ -1,6 +1,6 @@
 // One step of the cursor, and a refusal of it.
 ghost use Rattle.std.specs.Prelude.{◌≡◌};
-ghost use Rattle.records.specs.Step.{CountsFit, refused_at, start, stepAt};
+ghost use Rattle.records.specs.Step.{CountsFit, refused_at, start, step_at};
 
 use crate::{Outcome, SoFar, Stage, Stepped};
 use table::Refusal;
@@ -30,7 +30,7 @@ pub fn refuse(why: Refusal, at: usize) -> Stepped
 // The step, for a reading so far whose counts are within the sizes.
 pub fn step(book: &[u8], place: usize, sofar: SoFar) -> Stepped
     requires { CountsFit sofar }
-    ensures { result ≡ stepAt book.now place sofar }
+    ensures { result ≡ step_at book.now place sofar }
 {
     if book.len() <= place {
         return crate::kinds::at_edge(book, place, sofar);

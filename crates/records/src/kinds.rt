@@ -1,6 +1,6 @@
 // What each kind of record gives, or why it is refused.
 ghost use Rattle.std.specs.Prelude.{◌≡◌, ◌<◌, length};
-ghost use Rattle.records.specs.Step.{rank_of, not_after, given_at, CountsFit, judged, edgeRule, testRule, faultRule, responseRule, endRule};
+ghost use Rattle.records.specs.Step.{rank_of, not_after, given_at, CountsFit, judged, edge_rule, test_rule, fault_rule, response_rule, end_rule};
 
 use crate::{Outcome, Record, SoFar, Stage, Stepped};
 use table::{Refusal, Table};
@@ -29,7 +29,7 @@ pub fn rank(stage: Stage) -> usize
 
 // The book stops at a record's edge, or its end record has been read.
 pub fn at_edge(book: &[u8], place: usize, sofar: SoFar) -> Stepped
-    ensures { result ≡ judged (edgeRule book.now place sofar) place }
+    ensures { result ≡ judged (edge_rule book.now place sofar) place }
 {
     let stage = sofar.stage;
     if rank(stage) != 3 {
@@ -47,7 +47,7 @@ pub fn at_edge(book: &[u8], place: usize, sofar: SoFar) -> Stepped
 
 pub fn test_record(book: &[u8], place: usize, sofar: SoFar) -> Stepped
     requires { (place < length book.now) × CountsFit sofar }
-    ensures { result ≡ judged (testRule book.now place sofar) place }
+    ensures { result ≡ judged (test_rule book.now place sofar) place }
 {
     if book.len() < place + 2 {
         return crate::inner::refuse(Refusal::BodyCut, place);
@@ -67,7 +67,7 @@ pub fn test_record(book: &[u8], place: usize, sofar: SoFar) -> Stepped
 
 pub fn fault_record(book: &[u8], place: usize, sofar: SoFar) -> Stepped
     requires { (place < length book.now) × CountsFit sofar }
-    ensures { result ≡ judged (faultRule book.now place sofar) place }
+    ensures { result ≡ judged (fault_rule book.now place sofar) place }
 {
     if book.len() < place + 3 {
         return crate::inner::refuse(Refusal::BodyCut, place);
@@ -114,7 +114,7 @@ fn not_after(stage: Stage, fault: usize, test: usize) -> bool
 
 pub fn response_record(book: &[u8], place: usize, sofar: SoFar) -> Stepped
     requires { (place < length book.now) × CountsFit sofar }
-    ensures { result ≡ judged (responseRule book.now place sofar) place }
+    ensures { result ≡ judged (response_rule book.now place sofar) place }
 {
     if book.len() < place + 4 {
         return crate::inner::refuse(Refusal::BodyCut, place);
@@ -149,7 +149,7 @@ pub fn response_record(book: &[u8], place: usize, sofar: SoFar) -> Stepped
 
 pub fn end_record(book: &[u8], place: usize, sofar: SoFar) -> Stepped
     requires { (place < length book.now) × CountsFit sofar }
-    ensures { result ≡ judged (endRule book.now place sofar) place }
+    ensures { result ≡ judged (end_rule book.now place sofar) place }
 {
     if book.len() < place + 3 {
         return crate::inner::refuse(Refusal::BodyCut, place);

@@ -13,7 +13,7 @@ use Rattle.sets.proofs.Weight.{size_most}
 use Rattle.choice.specs.Answer.{ChoiceIs}
 use Rattle.cover.specs.Answer.{AsideTest, Exactly, Gives}
 use Rattle.folds.proofs.Onto.{onto_front}
-use Rattle.lent.proofs.Lent.{room-enough, room-short}
+use Rattle.lent.proofs.Lent.{room_enough, room_short}
 use Rattle.lines.proofs.Lengths.{longest}
 use Rattle.report.proofs.Bound.{text_most}
 use Rattle.report.specs.Answer.{IsTableText, IsText, Paged, ReportIs}
@@ -40,16 +40,16 @@ use Rattle.table.specs.declared.Written.TheVariants as written
 -- ---- a well-formed table
 
 module _ (tb : Table) (w : WellFormed tb) where
-  given-set : (P : ℕ → Type 0) (r : Chosen) → Gives tb P r → Exactly P (chosen_set r)
-  given-set P (Tests s) g = g.1
-  given-set P (Refused why) g = absurd (g.0 w)
+  given_set : (P : ℕ → Type 0) (r : Chosen) → Gives tb P r → Exactly P (chosen_set r)
+  given_set P (Tests s) g = g.1
+  given_set P (Refused why) g = absurd (g.0 w)
 
   -- no choice has more than 24 tests
-  chosen-set : (goal : Goal) (r : Chosen) → ChoiceIs tb goal 24 r → Choice tb goal (chosen_set r)
-  chosen-set goal (Tests s) c = c.2
-  chosen-set goal (Refused why) (inl (e, ill)) = absurd (ill w)
-  chosen-set goal (Refused why) (inr (inl (e, w', m))) = absurd (omega arith)
-  chosen-set goal (Refused why) (inr (inr (e, w', m, none))) =
+  chosen_set_lem : (goal : Goal) (r : Chosen) → ChoiceIs tb goal 24 r → Choice tb goal (chosen_set r)
+  chosen_set_lem goal (Tests s) c = c.2
+  chosen_set_lem goal (Refused why) (inl (e, ill)) = absurd (ill w)
+  chosen_set_lem goal (Refused why) (inr (inl (e, w', m))) = absurd (omega arith)
+  chosen_set_lem goal (Refused why) (inr (inr (e, w', m, none))) =
       let x = choice_exists tb goal in
       absurd (omega (
         arith,
@@ -57,21 +57,21 @@ module _ (tb : Table) (w : WellFormed tb) where
         size_most x.0 (below_of_bits 24 x.0 (λ t h. omega (arith, x.1.within t h, w.tests_fit))),
       ))
 
-  pub table-paged : (r₁ r₂ r₃ r₄ : Chosen) (aside essential detect diagnose r : ℕ) (b b' : List ℕ)
+  pub table_paged : (r₁ r₂ r₃ r₄ : Chosen) (aside essential detect diagnose r : ℕ) (b b' : List ℕ)
       → Gives tb (AsideTest tb Diagnose) r₁ → aside ≡ chosen_set r₁ → Gives tb (Essential tb Diagnose) r₂ → essential ≡ chosen_set r₂
       → ChoiceIs tb Detect 24 r₃ → detect ≡ chosen_set r₃ → ChoiceIs tb Diagnose 24 r₄ → diagnose ≡ chosen_set r₄
       → Writes 0 (table_text tb aside essential detect diagnose) b r b' → Paged (IsTableText tb) b r b'
-  table-paged r₁ r₂ r₃ r₄ aside essential detect diagnose r b b' g₁ e₁ g₂ e₂ g₃ e₃ g₄ e₄ v = record {
+  table_paged r₁ r₂ r₃ r₄ aside essential detect diagnose r b b' g₁ e₁ g₂ e₂ g₃ e₃ g₄ e₄ v = record {
     text = table_text tb aside essential detect diagnose;
     is_text = record {
       aside = aside;
       essential = essential;
       detect = detect;
       diagnose = diagnose;
-      is_aside = rw e₁ (given-set (AsideTest tb Diagnose) r₁ g₁);
-      is_essential = rw e₂ (given-set (Essential tb Diagnose) r₂ g₂);
-      is_detect = rw e₃ (chosen-set Detect r₃ g₃);
-      is_diagnose = rw e₄ (chosen-set Diagnose r₄ g₄);
+      is_aside = rw e₁ (given_set (AsideTest tb Diagnose) r₁ g₁);
+      is_essential = rw e₂ (given_set (Essential tb Diagnose) r₂ g₂);
+      is_detect = rw e₃ (chosen_set_lem Detect r₃ g₃);
+      is_diagnose = rw e₄ (chosen_set_lem Diagnose r₄ g₄);
       is_text = refl;
     };
     writes = v;
@@ -80,15 +80,15 @@ module _ (tb : Table) (w : WellFormed tb) where
 -- ---- a book
 
 module _ (book : List ℕ) (reading : Reading) (e : reading ≡ read_book book) (r : ℕ) (b b' : List ℕ) where
-  pub page-formed : reading.verdict ≡ verdict.Accepted → WellFormed reading.table
-  page-formed h = rw e (accepted_gave book _ (accepts_whole book (rw e at h))).formed
+  pub page_formed : reading.verdict ≡ verdict.Accepted → WellFormed reading.table
+  page_formed h = rw e (accepted_gave book _ (accepts_whole book (rw e at h))).formed
 
-  pub page-accepted : reading.verdict ≡ verdict.Accepted → Paged (IsTableText reading.table) b r b' → Paged (IsText book) b r b'
-  page-accepted h p = record { text = p.text; is_text = rw (← e, h) p.is_text; writes = p.writes }
+  pub page_accepted : reading.verdict ≡ verdict.Accepted → Paged (IsTableText reading.table) b r b' → Paged (IsText book) b r b'
+  page_accepted h p = record { text = p.text; is_text = rw (← e, h) p.is_text; writes = p.writes }
 
-  pub page-refused : (why : Refusal) (n m : ℕ) → reading.verdict ≡ verdict.Refused why → n ≡ number_of why → m ≡ n
+  pub page_refused : (why : Refusal) (n m : ℕ) → reading.verdict ≡ verdict.Refused why → n ≡ number_of why → m ≡ n
       → Writes 0 (refused_text m reading.place) b r b' → Paged (IsText book) b r b'
-  page-refused why n m h f g v = record { text = refused_text m reading.place; is_text = rw (← e, h, g, f) refl; writes = v }
+  page_refused why n m h f g v = record { text = refused_text m reading.place; is_text = rw (← e, h, g, f) refl; writes = v }
 
 -- ---- the page holds the whole text; d is what the lent buffer held
 
@@ -99,28 +99,28 @@ module _ (book page : List ℕ) (size : ℕ) (b : (i : ℕ) → Fits w8 (get_or 
   size_is : size ≡ length p.text
   size_is = writes_all size p.text (replicate longest 0) page p.writes fits
 
-  page-is : take size page ≡ p.text
-  page-is = rw (size_is, writes_onto size p.text (replicate longest 0) page p.writes fits) (onto_front p.text _)
+  page_is : take size page ≡ p.text
+  page_is = rw (size_is, writes_onto size p.text (replicate longest 0) page p.writes fits) (onto_front p.text _)
 
-  pub page-part : size ≡ length (take size page)
-  page-part = size_is ∙ ap length (sym page-is)
+  pub page_part : size ≡ length (take size page)
+  page_part = size_is ∙ ap length (sym page_is)
 
-  pub report-short : (d : List ℕ) → length d < size → ReportIs book d (written.Refused BufferShort) d
-  report-short d l = record {
+  pub report_short : (d : List ℕ) → length d < size → ReportIs book d (written.Refused BufferShort) d
+  report_short d l = record {
     text = p.text;
     is_text = p.is_text;
-    written = record { number = sym (room-short p.text d (rw (← size_is) l)); count = refl; buffer = refl };
+    written = record { number = sym (room_short p.text d (rw (← size_is) l)); count = refl; buffer = refl };
   }
 
-  pub report-written : (r : ℕ) (d d' : List ℕ) → size ≤ length d → Writes 0 (take size page) d r d' → ReportIs book d (written.Bytes r) d'
-  report-written r d d' l v =
-      let w : Writes 0 p.text d r d' = rw page-is at v in
+  pub report_written : (r : ℕ) (d d' : List ℕ) → size ≤ length d → Writes 0 (take size page) d r d' → ReportIs book d (written.Bytes r) d'
+  report_written r d d' l v =
+      let w : Writes 0 p.text d r d' = rw page_is at v in
       let room : length p.text ≤ length d = rw (← size_is) l in
       record {
         text = p.text;
         is_text = p.is_text;
         written = record {
-          number = sym (room-enough p.text d room);
+          number = sym (room_enough p.text d room);
           count = writes_all r p.text d d' w room;
           buffer = writes_onto r p.text d d' w room;
         };

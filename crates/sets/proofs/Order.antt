@@ -7,7 +7,7 @@ use Rattle.folds.proofs.Below.{below_cases, lt_or_ge, eq_or_ne}
 use Rattle.sets.specs.Sets.{bit, weight, Before, Precedes}
 use Rattle.sets.proofs.Bits.{bit_cases, bits_equal, some_bit, bit_below}
 use Rattle.sets.proofs.Flip.{pow_bit, pow_bit_other}
-use Rattle.sets.proofs.Weight.{weight-empty, weight-out}
+use Rattle.sets.proofs.Weight.{weight_empty, weight_out}
 
 -- which way the order goes: the set of a lower test alone comes before that of a higher one
 pub lower_first : (t u : ℕ) → t < u → Before (2 ^ t) (2 ^ u)
@@ -43,24 +43,24 @@ compare_below s s' (suc n) = go (compare_below s s' n) (bit_cases s n) (bit_case
     go (inl all) (inl x) (inr y) = inr (inr (n, y, x, λ u l. sym (all u l)))
 
 module _ (w : ℕ → ℕ) where
-  pub precedes-weight : (s s' : ℕ) → Precedes w s s' → weight w s ≤ weight w s'
-  precedes-weight s s' (inl l) = omega arith
-  precedes-weight s s' (inr (e, q)) = omega arith
+  pub precedes_weight : (s s' : ℕ) → Precedes w s s' → weight w s ≤ weight w s'
+  precedes_weight s s' (inl l) = omega arith
+  precedes_weight s s' (inr (e, q)) = omega arith
 
-  pub precedes-refl : (s : ℕ) → Precedes w s s
-  precedes-refl s = inr (refl, inl refl)
+  pub precedes_refl : (s : ℕ) → Precedes w s s
+  precedes_refl s = inr (refl, inl refl)
 
-  pub precedes-antisym : (s s' : ℕ) → Precedes w s s' → Precedes w s' s → s ≡ s'
-  precedes-antisym s s' (inl l) q = absurd (omega (arith, precedes-weight s' s q))
-  precedes-antisym s s' (inr (n, inl e)) q = e
-  precedes-antisym s s' (inr (n, inr b)) (inl l) = absurd (omega arith)
-  precedes-antisym s s' (inr (n, inr b)) (inr (n', inl e)) = sym e
-  precedes-antisym s s' (inr (n, inr b)) (inr (n', inr b')) = absurd (before_not s s' b b')
+  pub precedes_antisym : (s s' : ℕ) → Precedes w s s' → Precedes w s' s → s ≡ s'
+  precedes_antisym s s' (inl l) q = absurd (omega (arith, precedes_weight s' s q))
+  precedes_antisym s s' (inr (n, inl e)) q = e
+  precedes_antisym s s' (inr (n, inr b)) (inl l) = absurd (omega arith)
+  precedes_antisym s s' (inr (n, inr b)) (inr (n', inl e)) = sym e
+  precedes_antisym s s' (inr (n, inr b)) (inr (n', inr b')) = absurd (before_not s s' b b')
 
-  pub precedes-trans : (s s' s'' : ℕ) → Precedes w s s' → Precedes w s' s'' → Precedes w s s''
-  precedes-trans s s' s'' (inl l) q = inl (omega (arith, precedes-weight s' s'' q))
-  precedes-trans s s' s'' (inr (n, o)) (inl l) = inl (omega arith)
-  precedes-trans s s' s'' (inr (n, o)) (inr (n', o')) = inr (n ∙ n', go o o')
+  pub precedes_trans : (s s' s'' : ℕ) → Precedes w s s' → Precedes w s' s'' → Precedes w s s''
+  precedes_trans s s' s'' (inl l) q = inl (omega (arith, precedes_weight s' s'' q))
+  precedes_trans s s' s'' (inr (n, o)) (inl l) = inl (omega arith)
+  precedes_trans s s' s'' (inr (n, o)) (inr (n', o')) = inr (n ∙ n', go o o')
     where
       go : (s ≡ s') ⊎ Before s s' → (s' ≡ s'') ⊎ Before s' s'' → (s ≡ s'') ⊎ Before s s''
       go (inl e) (inl e') = inl (e ∙ e')
@@ -69,8 +69,8 @@ module _ (w : ℕ → ℕ) where
       go (inr b) (inr b') = inr (before_trans s s' s'' b b')
 
   -- of two sets below 2 ^ n one precedes the other
-  pub precedes-total : (n s s' : ℕ) → s < 2 ^ n → s' < 2 ^ n → Precedes w s s' ⊎ Precedes w s' s
-  precedes-total n s s' h h' = ⊎_elim
+  pub precedes_total : (n s s' : ℕ) → s < 2 ^ n → s' < 2 ^ n → Precedes w s s' ⊎ Precedes w s' s
+  precedes_total n s s' h h' = ⊎_elim
       (λ l. inl (inl l))
       (λ l. ⊎_elim (λ m. inr (inl m)) (λ m. equal (omega arith) (compare_below s s' n)) (lt_or_ge (weight w s') (weight w s)))
       (lt_or_ge (weight w s) (weight w s'))
@@ -81,10 +81,10 @@ module _ (w : ℕ → ℕ) where
       equal e (inr (inr b)) = inr (inr (sym e, inr b))
 
   -- where every test weighs something the empty set comes first
-  pub empty-first : ((t : ℕ) → 0 < w t) → (s : ℕ) → s < 2 ^ 24 → Precedes w 0 s
-  empty-first positive s h = ⊎_elim
+  pub empty_first : ((t : ℕ) → 0 < w t) → (s : ℕ) → s < 2 ^ 24 → Precedes w 0 s
+  empty_first positive s h = ⊎_elim
       (λ (e : s ≡ 0). inr (ap (weight w) (sym e), inl (sym e)))
-      (λ (ne : s ≡ 0 → ⊥). let b = some_bit s ne in inl (omega (arith, weight-empty w, weight-out w s b.0 (bit_below 24 s b.0 h b.1) b.1, positive b.0)))
+      (λ (ne : s ≡ 0 → ⊥). let b = some_bit s ne in inl (omega (arith, weight_empty w, weight_out w s b.0 (bit_below 24 s b.0 h b.1) b.1, positive b.0)))
       (eq_or_ne s 0)
 
 -- {0} comes before {1}, and {0, 3} before {1, 2}

@@ -42,18 +42,18 @@ shares_not m s e (t, a, b) = omega (arith, bit-bit_and m s t, ap (λ (x : ℕ). 
 
 -- test t is the only one that two sets share
 module _ (m s t : ℕ) where
-  both-in : (u : ℕ) → bit (bit_and m s) u ≡ 1 → (bit m u ≡ 1) × (bit s u ≡ 1)
-  both-in u e = (omega (arith, bit-bit_and m s u, bit_lt m u), omega (arith, bit-bit_and m s u, bit_lt s u))
+  both_in : (u : ℕ) → bit (bit_and m s) u ≡ 1 → (bit m u ≡ 1) × (bit s u ≡ 1)
+  both_in u e = (omega (arith, bit-bit_and m s u, bit_lt m u), omega (arith, bit-bit_and m s u, bit_lt s u))
 
   module _ (e : bit_and m s ≡ 2 ^ t) where
-    pub only-in : (bit m t ≡ 1) × (bit s t ≡ 1)
-    only-in = both-in t (ap (λ (x : ℕ). bit x t) e ∙ pow_bit t)
+    pub only_in : (bit m t ≡ 1) × (bit s t ≡ 1)
+    only_in = both_in t (ap (λ (x : ℕ). bit x t) e ∙ pow_bit t)
 
     pub only_one : (u : ℕ) → bit m u ≡ 1 → bit s u ≡ 1 → u ≡ t
     only_one u a b = ⊎_elim (λ q. q) (λ ne. absurd (omega (arith, bit-bit_and m s u, ap (λ (x : ℕ). bit x u) e, pow_bit_other t u ne))) (eq_or_ne u t)
 
   pub only_of : (n : ℕ) → m < 2 ^ n → bit m t ≡ 1 → bit s t ≡ 1 → ((u : ℕ) → bit m u ≡ 1 → bit s u ≡ 1 → u ≡ t) → bit_and m s ≡ 2 ^ t
-  only_of n h a b only = bits_equal n (bit_and m s) (2 ^ t) (below_of_bits n (bit_and m s) (λ u e. bit_below n m u h (both-in u e).0)) (pow-lt (bit_below n m t h a)) (λ u l. ⊎_elim
+  only_of n h a b only = bits_equal n (bit_and m s) (2 ^ t) (below_of_bits n (bit_and m s) (λ u e. bit_below n m u h (both_in u e).0)) (pow-lt (bit_below n m t h a)) (λ u l. ⊎_elim
       (λ (q : u ≡ t). rw q (omega (arith, bit-bit_and m s t, pow_bit t)))
-      (λ (ne : u ≡ t → ⊥). bit_out (bit_and m s) u (λ e. let w = both-in u e in ne (only u w.0 w.1)) ∙ sym (pow_bit_other t u ne))
+      (λ (ne : u ≡ t → ⊥). bit_out (bit_and m s) u (λ e. let w = both_in u e in ne (only u w.0 w.1)) ∙ sym (pow_bit_other t u ne))
       (eq_or_ne u t))

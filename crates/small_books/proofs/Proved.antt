@@ -16,13 +16,13 @@ use Rattle.terms.specs.Terms.{class_count}
 use Rattle.terms.specs.Columns.{agrees, alike, apart, lowest}
 use Rattle.grow.specs.Grow.{differs, filled}
 use Rattle.book.specs.Reading.{read_book}
-use Rattle.records.specs.Step.{edgeRule, endRule, faultRule, first_of, kindRule, responseRule, ruleAt, stepAt, testRule, unknownRule}
+use Rattle.records.specs.Step.{edge_rule, end_rule, fault_rule, first_of, kind_rule, response_rule, rule_at, step_at, test_rule, unknown_rule}
 use Rattle.cover.specs.Answer.{kept_set}
-use Rattle.cover.specs.Kept.{covers, follows, followsAt, has_at, kept, outdone, outdoneBy, used}
+use Rattle.cover.specs.Kept.{covers, follows, follows_at, has_at, kept, outdone, outdone_by, used}
 use Rattle.small_books.specs.Books.{small_books}
 use Rattle.small_books.specs.Claim.{Saying, classes, choice, aside, capped, TrueOf, AllTrue, Entry, Fits, AllHold}
-use Rattle.choice_laws.proofs.Small.{choice-by, eachReaching, hits, hitsAt, hitting, isChoice, leadsIn, precedes, sameIn}
-use Rattle.small_books.proofs.Test.{aside-by, capGives, capped-by, exceeds, isAside, isCapped}
+use Rattle.choice_laws.proofs.Small.{choice_by, each_reaching, hits, hits_at, hitting, is_choice, leads_in, precedes, same_in}
+use Rattle.small_books.proofs.Test.{aside_by, cap_gives, capped_by, exceeds, is_aside_test, is_capped}
 use Rattle.sets.specs.Collect as collect
 use Rattle.cover.specs.Masks as masks
 
@@ -30,16 +30,16 @@ use Rattle.cover.specs.Masks as masks
 
 is_true : Table → Saying → Bool
 is_true tb (classes n) = eqb (class_count tb) n
-is_true tb (choice goal s) = isChoice tb goal s
-is_true tb (aside goal s) = isAside tb goal s
-is_true tb (capped goal cap r) = isCapped tb goal cap r
+is_true tb (choice goal s) = is_choice tb goal s
+is_true tb (aside goal s) = is_aside_test tb goal s
+is_true tb (capped goal cap r) = is_capped tb goal cap r
 
 true_by : (tb : Table) (x : Saying) → is_true tb x ≡ true → TrueOf tb x
 unfolding is_true
 true_by tb (classes n) h = eqb-true _ _ h
-true_by tb (choice goal s) h = choice-by tb goal s h
-true_by tb (aside goal s) h = aside-by tb goal s h
-true_by tb (capped goal cap r) h = capped-by tb goal cap r h
+true_by tb (choice goal s) h = choice_by tb goal s h
+true_by tb (aside goal s) h = aside_by tb goal s h
+true_by tb (capped goal cap r) h = capped_by tb goal cap r h
 
 are_true : Table → List Saying → Bool
 are_true tb [] = true
@@ -77,7 +77,7 @@ all_hold (e ∷ es) h =
 -- ---- the whole list
 
 computed : entries_hold small_books ≡ true
-unfolding entries_hold fits are_true is_true isChoice isAside isCapped capGives exceeds eachReaching hitting hits hitsAt precedes leadsIn sameIn small_books read_book stepAt ruleAt kindRule edgeRule unknownRule endRule responseRule faultRule testRule first_of filled differs empty_table cell_at place_of well_formed label_right fresh differ row_right cell_right every count total joined single always bit has within share one agrees alike apart lowest kept_set collect.set_of collect.with_test some kept outdone outdoneBy covers used followsAt follows has_at masks.masks_of masks.maskRow masks.counts masks.goalMask masks.mask_of masks.differs masks.goal_pair
+unfolding entries_hold fits are_true is_true is_choice is_aside_test is_capped cap_gives exceeds each_reaching hitting hits hits_at precedes leads_in same_in small_books read_book step_at rule_at kind_rule edge_rule unknown_rule end_rule response_rule fault_rule test_rule first_of filled differs empty_table cell_at place_of well_formed label_right fresh differ row_right cell_right every count total joined single always bit has within share one agrees alike apart lowest kept_set collect.set_of collect.with_test some kept outdone outdone_by covers used follows_at follows has_at masks.masks_of masks.mask_row masks.counts masks.goal_mask masks.mask_of masks.differs masks.goal_pair
 computed = refl
 
 pub small_books_lem : AllHold small_books

@@ -17,42 +17,42 @@ use Rattle.table.specs.declared.Chosen.TheVariants.{Tests, Refused}
 use Rattle.table.specs.declared.Goal.{Goal}
 use Rattle.table.specs.declared.Table.{Table}
 use Rattle.cover.specs.Answer.{kept_set, Exactly, AsideTest}
-use Rattle.cover.proofs.Aside.{aside-exactly}
+use Rattle.cover.proofs.Aside.{aside_exactly}
 use Rattle.choice.specs.Answer.{ChoiceIs}
-use Rattle.choice_laws.proofs.Small.{choice-by, each-reaching, eachReaching, isChoice}
+use Rattle.choice_laws.proofs.Small.{choice_by, each_reaching_lem, each_reaching, is_choice}
 
 module _ (tb : Table) (goal : Goal) where
-  unfoldable pub isAside : ℕ → Bool
-  isAside s = eqb (2 ^ tb.tests - 1 - kept_set tb goal) s
+  unfoldable pub is_aside_test : ℕ → Bool
+  is_aside_test s = eqb (2 ^ tb.tests - 1 - kept_set tb goal) s
 
-  pub aside-by : (s : ℕ) → isAside s ≡ true → Exactly (AsideTest tb goal) s
-  unfolding isAside
-  aside-by s h = subst (Exactly (AsideTest tb goal)) (eqb-true _ _ h) (aside-exactly tb goal)
+  pub aside_by : (s : ℕ) → is_aside_test s ≡ true → Exactly (AsideTest tb goal) s
+  unfolding is_aside_test
+  aside_by s h = subst (Exactly (AsideTest tb goal)) (eqb-true _ _ h) (aside_exactly tb goal)
 
   unfoldable pub exceeds : ℕ → ℕ → Bool
   exceeds cap s = ltb cap (size s)
 
   -- the cap gives r: the choice, which is within it, or 23, where no set within it reaches the goal
-  unfoldable pub capGives : ℕ → Chosen → Bool
-  capGives cap (Tests s) = both (isChoice tb goal s) (leb (size s) cap)
-  capGives cap (Refused why) = both (eqb (number_of why) 23) (eachReaching tb goal (exceeds cap))
+  unfoldable pub cap_gives : ℕ → Chosen → Bool
+  cap_gives cap (Tests s) = both (is_choice tb goal s) (leb (size s) cap)
+  cap_gives cap (Refused why) = both (eqb (number_of why) 23) (each_reaching tb goal (exceeds cap))
 
-  unfoldable pub isCapped : ℕ → Chosen → Bool
-  isCapped cap r = both (well_formed tb) (both (leb cap 24) (capGives cap r))
+  unfoldable pub is_capped : ℕ → Chosen → Bool
+  is_capped cap r = both (well_formed tb) (both (leb cap 24) (cap_gives cap r))
 
   module _ (cap : ℕ) (w : WellFormed tb) (fits : cap ≤ 24) where
-    cap-by : (r : Chosen) → capGives cap r ≡ true → ChoiceIs tb goal cap r
-    unfolding capGives exceeds
-    cap-by (Tests s) h = (w, fits, choice-by tb goal s (both_left (isChoice tb goal s) _ h), leb-true _ _ (both_right (isChoice tb goal s) _ h))
-    cap-by (Refused why) h = inr (inr (
+    cap_by : (r : Chosen) → cap_gives cap r ≡ true → ChoiceIs tb goal cap r
+    unfolding cap_gives exceeds
+    cap_by (Tests s) h = (w, fits, choice_by tb goal s (both_left (is_choice tb goal s) _ h), leb-true _ _ (both_right (is_choice tb goal s) _ h))
+    cap_by (Refused why) h = inr (inr (
       eqb-true _ _ (both_left (eqb (number_of why) 23) _ h),
       w,
       fits,
-      λ s t r. ltb-true _ _ (each-reaching tb goal (exceeds cap) (both_right (eqb (number_of why) 23) _ h) s t r),
+      λ s t r. ltb-true _ _ (each_reaching_lem tb goal (exceeds cap) (both_right (eqb (number_of why) 23) _ h) s t r),
     ))
 
-  pub capped-by : (cap : ℕ) (r : Chosen) → isCapped cap r ≡ true → ChoiceIs tb goal cap r
-  unfolding isCapped
-  capped-by cap r h =
-      let rest : both (leb cap 24) (capGives cap r) ≡ true = both_right (well_formed tb) _ h in
-      cap-by cap (formed tb (both_left (well_formed tb) _ h)) (leb-true _ _ (both_left (leb cap 24) _ rest)) r (both_right (leb cap 24) _ rest)
+  pub capped_by : (cap : ℕ) (r : Chosen) → is_capped cap r ≡ true → ChoiceIs tb goal cap r
+  unfolding is_capped
+  capped_by cap r h =
+      let rest : both (leb cap 24) (cap_gives cap r) ≡ true = both_right (well_formed tb) _ h in
+      cap_by cap (formed tb (both_left (well_formed tb) _ h)) (leb-true _ _ (both_left (leb cap 24) _ rest)) r (both_right (leb cap 24) _ rest)

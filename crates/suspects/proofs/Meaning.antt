@@ -12,8 +12,8 @@ use lib.ListN.{length, get_or}
 use Rattle.folds.specs.Fold.{pick, count, gather, single, onto}
 use Rattle.folds.proofs.Below.{lt_or_ge}
 use Rattle.folds.proofs.Count.{count_less, count_mono, count_reaches}
-use Rattle.folds.proofs.Gather.{gather-length, gather_get}
-use Rattle.folds.proofs.Joined.{joined-none, joined-no}
+use Rattle.folds.proofs.Gather.{gather_length, gather_get}
+use Rattle.folds.proofs.Joined.{joined_none, joined_no}
 use Rattle.folds.proofs.Bools.{pick_ap}
 use Rattle.folds.proofs.Onto.{onto_get}
 use Rattle.sets.specs.Sets.{has, within}
@@ -23,10 +23,10 @@ use Rattle.table.specs.Table.{output_at, columns}
 use Rattle.table.specs.Test.{well_formed}
 use Rattle.table.specs.declared.Suspects.{Suspects}
 use Rattle.table.specs.declared.Table.{Table}
-use Rattle.terms.specs.Columns.{outputOf}
+use Rattle.terms.specs.Columns.{output_of}
 use Rattle.terms.specs.Terms.{signature}
-use Rattle.suspects.specs.Suspects.{unlisted, itself, suspect, foundUnder, refused_by, suspects_of}
-use Rattle.suspects.proofs.Answers.{suspect-same, same-suspect}
+use Rattle.suspects.specs.Suspects.{unlisted, itself, suspect, found_under, refused_by, suspects_of}
+use Rattle.suspects.proofs.Answers.{suspect_same, same_suspect}
 
 -- ---- the list of the numbers that have p
 
@@ -34,14 +34,14 @@ module _ (p : ℕ → Bool) (n : ℕ) where
   -- each of them stands at its own place,
   at_place : (c : ℕ) → c < n → p c ≡ true → get_or (onto (gather p itself n) unlisted) (count p c) 0 ≡ c
   at_place c w h =
-      onto_get (gather p itself n) unlisted (count p c) (omega (arith, gather-length p itself n, count_less p c n w h)) ∙ gather_get p itself n c w h
+      onto_get (gather p itself n) unlisted (count p c) (omega (arith, gather_length p itself n, count_less p c n w h)) ∙ gather_get p itself n c w h
 
   -- and at each place below their count stands one of them
-  one-there : (i : ℕ) → i < count p n → (c : ℕ) × (c < n) × (p c ≡ true) × (count p c ≡ i) × (get_or (onto (gather p itself n) unlisted) i 0 ≡ c)
-  one-there i w = let x = count_reaches p n i w in (x.0, x.1, x.2, x.3, ap (λ (k : ℕ). get_or (onto (gather p itself n) unlisted) k 0) (sym x.3) ∙ at_place x.0 x.1 x.2)
+  one_there : (i : ℕ) → i < count p n → (c : ℕ) × (c < n) × (p c ≡ true) × (count p c ≡ i) × (get_or (onto (gather p itself n) unlisted) i 0 ≡ c)
+  one_there i w = let x = count_reaches p n i w in (x.0, x.1, x.2, x.3, ap (λ (k : ℕ). get_or (onto (gather p itself n) unlisted) k 0) (sym x.3) ∙ at_place x.0 x.1 x.2)
 
   rises : (i j : ℕ) → i < j → j < count p n → get_or (onto (gather p itself n) unlisted) i 0 < get_or (onto (gather p itself n) unlisted) j 0
-  rises i j l w = go (one-there i (omega arith)) (one-there j w)
+  rises i j l w = go (one_there i (omega arith)) (one_there j w)
     where
       go : (c : ℕ) × (c < n) × (p c ≡ true) × (count p c ≡ i) × (get_or (onto (gather p itself n) unlisted) i 0 ≡ c)
           → (d : ℕ) × (d < n) × (p d ≡ true) × (count p d ≡ j) × (get_or (onto (gather p itself n) unlisted) j 0 ≡ d)
@@ -52,7 +52,7 @@ module _ (p : ℕ → Bool) (n : ℕ) where
 
 pub suspects_number : (tb : Table) (s : ℕ) (seen : List ℕ) (a : Suspects) → a ≡ suspects_of tb s seen
     → verdict_number a.verdict ≡ pick (well_formed tb) (pick (within s tb.tests) (pick (eqb (length seen) (count (has s) tb.tests)) 0 25) 21) 20
-unfolding suspects_of foundUnder refused_by
+unfolding suspects_of found_under refused_by
 suspects_number tb s seen a e =
     let number : Suspects → ℕ = λ x. verdict_number x.verdict in
     rw e (pick_ap number (well_formed tb) _ _
@@ -62,37 +62,37 @@ suspects_number tb s seen a e =
 -- ---- an accepted call
 
 module _ (tb : Table) (s : ℕ) (seen : List ℕ) (formed : well_formed tb ≡ true) (known : within s tb.tests ≡ true) (each : length seen ≡ count (has s) tb.tests) where
-  answer-found : suspects_of tb s seen ≡ foundUnder (output_at tb) tb.tests s seen (columns tb)
+  answer_found : suspects_of tb s seen ≡ found_under (output_at tb) tb.tests s seen (columns tb)
   unfolding suspects_of
-  answer-found = rw (formed, known, eq-eqb _ _ each)
+  answer_found = rw (formed, known, eq-eqb _ _ each)
 
   module _ (a : Suspects) (e : a ≡ suspects_of tb s seen) where
     pub counted : a.count ≡ count (suspect (output_at tb) tb.tests s seen) (columns tb)
-    unfolding foundUnder
-    counted = rw (e, answer-found)
+    unfolding found_under
+    counted = rw (e, answer_found)
 
-    columns-are : a.columns ≡ onto (gather (suspect (output_at tb) tb.tests s seen) itself (columns tb)) unlisted
-    unfolding foundUnder
-    columns-are = rw (e, answer-found)
+    columns_are : a.columns ≡ onto (gather (suspect (output_at tb) tb.tests s seen) itself (columns tb)) unlisted
+    unfolding found_under
+    columns_are = rw (e, answer_found)
 
     -- what is listed is a column whose signature equals the outputs,
-    pub listed-suspect : (i : ℕ) → i < a.count → (get_or a.columns i 0 < columns tb) × (signature tb s (get_or a.columns i 0) ≡ seen)
-    listed-suspect i w =
-        let x = one-there (suspect (output_at tb) tb.tests s seen) (columns tb) i (rw (← counted) w) in
-        rw (columns-are, x.4) (x.1, suspect-same (output_at tb) tb.tests s seen x.0 x.2)
+    pub listed_suspect : (i : ℕ) → i < a.count → (get_or a.columns i 0 < columns tb) × (signature tb s (get_or a.columns i 0) ≡ seen)
+    listed_suspect i w =
+        let x = one_there (suspect (output_at tb) tb.tests s seen) (columns tb) i (rw (← counted) w) in
+        rw (columns_are, x.4) (x.1, suspect_same (output_at tb) tb.tests s seen x.0 x.2)
 
     -- and every such column is listed
-    pub suspect-listed : (c : ℕ) → c < columns tb → signature tb s c ≡ seen → (i : ℕ) × (i < a.count) × (get_or a.columns i 0 ≡ c)
-    suspect-listed c w h =
-        let p : suspect (output_at tb) tb.tests s seen c ≡ true = same-suspect (output_at tb) tb.tests s seen c h in (
+    pub suspect_listed : (c : ℕ) → c < columns tb → signature tb s c ≡ seen → (i : ℕ) × (i < a.count) × (get_or a.columns i 0 ≡ c)
+    suspect_listed c w h =
+        let p : suspect (output_at tb) tb.tests s seen c ≡ true = same_suspect (output_at tb) tb.tests s seen c h in (
           count (suspect (output_at tb) tb.tests s seen) c,
           rw counted (omega (arith, count_less (suspect (output_at tb) tb.tests s seen) c (columns tb) w p)),
-          rw columns-are (at_place (suspect (output_at tb) tb.tests s seen) (columns tb) c w p),
+          rw columns_are (at_place (suspect (output_at tb) tb.tests s seen) (columns tb) c w p),
         )
 
     -- the list rises strictly
-    pub list-rises : (i j : ℕ) → i < j → j < a.count → get_or a.columns i 0 < get_or a.columns j 0
-    list-rises i j l w = rw columns-are (rises (suspect (output_at tb) tb.tests s seen) (columns tb) i j l (rw (← counted) w))
+    pub list_rises : (i j : ℕ) → i < j → j < a.count → get_or a.columns i 0 < get_or a.columns j 0
+    list_rises i j l w = rw columns_are (rises (suspect (output_at tb) tb.tests s seen) (columns tb) i j l (rw (← counted) w))
 
 -- ---- "The empty set with no outputs gives every column."
 
@@ -100,10 +100,10 @@ no_test : (t : ℕ) → has 0 t ≡ false
 no_test t = has_no 0 t (bit_zero t)
 
 no_outputs : (f : ℕ → ℕ) (n : ℕ) → gather (has 0) f n ≡ []
-no_outputs f zero = joined-none (has 0) (single f)
-no_outputs f (suc n) = rw (← add-one n) (joined-no (has 0) (single f) n (no_test n) ∙ no_outputs f n)
+no_outputs f zero = joined_none (has 0) (single f)
+no_outputs f (suc n) = rw (← add-one n) (joined_no (has 0) (single f) n (no_test n) ∙ no_outputs f n)
 
 pub empty_set : (tb : Table) → well_formed tb ≡ true → (a : Suspects) → a ≡ suspects_of tb 0 [] → (c : ℕ) → c < columns tb → (i : ℕ) × (i < a.count) × (get_or a.columns i 0 ≡ c)
 empty_set tb formed a e c w =
-    suspect-listed tb 0 [] formed (within_of 0 tb.tests (λ t b. absurd (omega (arith, bit_zero t))))
-    (ap length (sym (no_outputs itself tb.tests)) ∙ gather-length (has 0) itself tb.tests) a e c w (no_outputs (outputOf (output_at tb) c) tb.tests)
+    suspect_listed tb 0 [] formed (within_of 0 tb.tests (λ t b. absurd (omega (arith, bit_zero t))))
+    (ap length (sym (no_outputs itself tb.tests)) ∙ gather_length (has 0) itself tb.tests) a e c w (no_outputs (output_of (output_at tb) c) tb.tests)

@@ -10,7 +10,7 @@ use Rattle.table.specs.declared.Refusal.TheVariants.{NotWellFormed, UnknownTest,
 use Rattle.table.specs.declared.Suspects.{Suspects}
 use Rattle.table.specs.declared.Table.{Table}
 use Rattle.table.specs.declared.Verdict.TheVariants.{Accepted, Refused}
-use Rattle.terms.specs.Columns.{outputsUnder}
+use Rattle.terms.specs.Columns.{outputs_under}
 
 -- the two lists are equal
 unfoldable pub equal : List ℕ → List ℕ → Bool
@@ -35,11 +35,11 @@ module _ (out : ℕ → ℕ → ℕ) where
   module _ (tests s : ℕ) (seen : List ℕ) where
     -- "Suspects are all columns whose signature under the set equals the observed outputs."
     unfoldable pub suspect : ℕ → Bool
-    suspect c = equal (outputsUnder out tests s c) seen
+    suspect c = equal (outputs_under out tests s c) seen
 
     -- "They come back in the answer itself, in rising order, at most 61": zero past the last
-    unfoldable pub foundUnder : ℕ → Suspects
-    foundUnder n = record { verdict = Accepted; count = count suspect n; columns = onto (gather suspect itself n) unlisted }
+    unfoldable pub found_under : ℕ → Suspects
+    found_under n = record { verdict = Accepted; count = count suspect n; columns = onto (gather suspect itself n) unlisted }
 
 -- "A refused call returns the number with the empty set, list or count 0."
 unfoldable pub refused_by : Refusal → Suspects
@@ -51,6 +51,6 @@ unfoldable pub suspects_of : Table → ℕ → List ℕ → Suspects
 suspects_of tb s seen =
     pick (well_formed tb)
     (pick (within s tb.tests)
-    (pick (eqb (length seen) (count (has s) tb.tests)) (foundUnder (output_at tb) tb.tests s seen (columns tb)) (refused_by NotOneEach))
+    (pick (eqb (length seen) (count (has s) tb.tests)) (found_under (output_at tb) tb.tests s seen (columns tb)) (refused_by NotOneEach))
     (refused_by UnknownTest))
     (refused_by NotWellFormed)

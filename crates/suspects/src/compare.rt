@@ -3,7 +3,7 @@ ghost use Rattle.std.specs.Prelude.{◌≡◌, ◌+◌, ◌≤◌, ◌<◌, leng
 ghost use Rattle.folds.specs.Fold.{count};
 ghost use Rattle.sets.specs.Sets.{has};
 ghost use Rattle.table.specs.Table.{cell_at};
-ghost use Rattle.suspects.specs.Suspects.{answers, suspect, foundUnder};
+ghost use Rattle.suspects.specs.Suspects.{answers, suspect, found_under};
 
 use table::{Suspects, Verdict};
 
@@ -63,7 +63,7 @@ pub fn found<'a>(
     columns: usize,
 ) -> Suspects
     requires { (tests ≤ 24) × (columns ≤ 61) × (length outputs.now ≡ count (has set) tests) }
-    ensures { result ≡ foundUnder (cell_at cells.now) tests set outputs.now columns }
+    ensures { result ≡ found_under (cell_at cells.now) tests set outputs.now columns }
 {
     let mut list = [0u8; 61];
     let mut n: usize = 0;

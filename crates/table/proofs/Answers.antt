@@ -62,48 +62,48 @@ module _ {A : Type 0} (accepted : ℕ → A) (refused : Refusal → A) where
   answer_of n v = pick (eqb n 0) (accepted v) (refused (refusal_of n))
 
   -- no two refusals have one number, and none has 0
-  refused-back : (why : Refusal) → answer_of (number_of why) 0 ≡ refused why
+  refused_back : (why : Refusal) → answer_of (number_of why) 0 ≡ refused why
   unfolding answer_of refusal_of
-  refused-back UnknownKind = refl
-  refused-back BodyCut = refl
-  refused-back NoEnd = refl
-  refused-back OutOfPlace = refl
-  refused-back TooMany = refl
-  refused-back StuckValue = refl
-  refused-back SameLabel = refl
-  refused-back NotInBook = refl
-  refused-back NotAfter = refl
-  refused-back RepeatsCorrect = refl
-  refused-back WrongCounts = refl
-  refused-back BytesFollow = refl
-  refused-back NotWellFormed = refl
-  refused-back UnknownTest = refl
-  refused-back CapTooHigh = refl
-  refused-back NoneWithinCap = refl
-  refused-back BufferShort = refl
-  refused-back NotOneEach = refl
+  refused_back UnknownKind = refl
+  refused_back BodyCut = refl
+  refused_back NoEnd = refl
+  refused_back OutOfPlace = refl
+  refused_back TooMany = refl
+  refused_back StuckValue = refl
+  refused_back SameLabel = refl
+  refused_back NotInBook = refl
+  refused_back NotAfter = refl
+  refused_back RepeatsCorrect = refl
+  refused_back WrongCounts = refl
+  refused_back BytesFollow = refl
+  refused_back NotWellFormed = refl
+  refused_back UnknownTest = refl
+  refused_back CapTooHigh = refl
+  refused_back NoneWithinCap = refl
+  refused_back BufferShort = refl
+  refused_back NotOneEach = refl
 
-  accepted-back : (v : ℕ) → answer_of 0 v ≡ accepted v
+  accepted_back : (v : ℕ) → answer_of 0 v ≡ accepted v
   unfolding answer_of
-  accepted-back v = refl
+  accepted_back v = refl
 
   -- where number and value give the answer back, two answers that agree in both are one
-  answer-one : (number value : A → ℕ) → ((a : A) → answer_of (number a) (value a) ≡ a) → (a b : A) → number a ≡ number b → value a ≡ value b → a ≡ b
-  answer-one number value back a b h k = sym (back a) ∙ (λ i. answer_of (h i) (k i)) ∙ back b
+  answer_one : (number value : A → ℕ) → ((a : A) → answer_of (number a) (value a) ≡ a) → (a b : A) → number a ≡ number b → value a ≡ value b → a ≡ b
+  answer_one number value back a b h k = sym (back a) ∙ (λ i. answer_of (h i) (k i)) ∙ back b
 
 pub number_one : (a b : Refusal) → number_of a ≡ number_of b → a ≡ b
-number_one a b e = answer-one {A = Refusal} (λ v. UnknownKind) (λ why. why) number_of (λ why. 0) (refused-back (λ v. UnknownKind) (λ why. why)) a b e refl
+number_one a b e = answer_one {A = Refusal} (λ v. UnknownKind) (λ why. why) number_of (λ why. 0) (refused_back (λ v. UnknownKind) (λ why. why)) a b e refl
 
 pub faults_one : (a b : Faults) → faults_number a ≡ faults_number b → faults_set a ≡ faults_set b → a ≡ b
-faults_one = answer-one faults.Set faults.Refused faults_number faults_set back
+faults_one = answer_one faults.Set faults.Refused faults_number faults_set back
   where
     back : (a : Faults) → answer_of faults.Set faults.Refused (faults_number a) (faults_set a) ≡ a
-    back (faults.Set s) = accepted-back faults.Set faults.Refused s
-    back (faults.Refused why) = refused-back faults.Set faults.Refused why
+    back (faults.Set s) = accepted_back faults.Set faults.Refused s
+    back (faults.Refused why) = refused_back faults.Set faults.Refused why
 
 pub written_one : (a b : Written) → written_number a ≡ written_number b → written_count a ≡ written_count b → a ≡ b
-written_one = answer-one written.Bytes written.Refused written_number written_count back
+written_one = answer_one written.Bytes written.Refused written_number written_count back
   where
     back : (a : Written) → answer_of written.Bytes written.Refused (written_number a) (written_count a) ≡ a
-    back (written.Bytes k) = accepted-back written.Bytes written.Refused k
-    back (written.Refused why) = refused-back written.Bytes written.Refused why
+    back (written.Bytes k) = accepted_back written.Bytes written.Refused k
+    back (written.Refused why) = refused_back written.Bytes written.Refused why

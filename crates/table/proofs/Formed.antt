@@ -23,15 +23,15 @@ use Rattle.table.specs.Test.{differ, fresh, label_right, cell_right, row_right, 
 -- ---- a table that passes is well formed
 
 module _ (lines stuck : List ℕ) (faults f : ℕ) where
-  used-label : f < faults → label_right lines stuck faults f ≡ true → (get_or stuck f 0 ≤ 1) × (fresh lines stuck f ≡ true)
+  used_label : f < faults → label_right lines stuck faults f ≡ true → (get_or stuck f 0 ≤ 1) × (fresh lines stuck f ≡ true)
   unfolding label_right
-  used-label l h =
+  used_label l h =
       let k : both (leb (get_or stuck f 0) 1) (fresh lines stuck f) ≡ true = rw (lt-ltb f faults l) at h in
       (leb-true _ _ (both_left _ _ k), both_right (leb (get_or stuck f 0) 1) _ k)
 
-  unused-label : faults ≤ f → label_right lines stuck faults f ≡ true → (get_or lines f 0 ≡ 0) × (get_or stuck f 0 ≡ 0)
+  unused_label : faults ≤ f → label_right lines stuck faults f ≡ true → (get_or lines f 0 ≡ 0) × (get_or stuck f 0 ≡ 0)
   unfolding label_right
-  unused-label l h =
+  unused_label l h =
       let k : both (eqb (get_or lines f 0) 0) (eqb (get_or stuck f 0) 0) ≡ true = rw (le-ltb f faults l) at h in
       (eqb-true _ _ (both_left _ _ k), eqb-true _ _ (both_right (eqb (get_or lines f 0) 0) _ k))
 
@@ -58,10 +58,10 @@ formed tb h =
     record {
       tests_fit = leb-true _ _ (both_left _ _ h);
       faults_fit = faults;
-      stuck_fit = λ f l. (used-label tb.lines tb.stuck tb.faults f l (label f (omega arith))).0;
-      distinct = λ f g l m p q. fresh_differs tb.lines tb.stuck f g (used-label tb.lines tb.stuck tb.faults f m (label f (omega arith))).1 l p q;
+      stuck_fit = λ f l. (used_label tb.lines tb.stuck tb.faults f l (label f (omega arith))).0;
+      distinct = λ f g l m p q. fresh_differs tb.lines tb.stuck f g (used_label tb.lines tb.stuck tb.faults f m (label f (omega arith))).1 l p q;
       cells_clear = λ t c l m u. unused_cell tb.cells tb.tests tb.faults t c (every_at (row_right tb.cells tb.tests tb.faults) 24 t (both_right (every (label_right tb.lines tb.stuck tb.faults) 60) _ b) l) m u;
-      labels_clear = λ f l m. unused-label tb.lines tb.stuck tb.faults f l (label f m);
+      labels_clear = λ f l m. unused_label tb.lines tb.stuck tb.faults f l (label f m);
     }
 
 -- ---- a well-formed table passes
@@ -71,16 +71,16 @@ module _ (tb : Table) (w : WellFormed tb) where
   unfolding differ
   differs f m g l = no_both _ _ (λ p q. w.distinct f g l m (eqb-true _ _ p) (eqb-true _ _ q))
 
-  right-label : (f : ℕ) → f < 60 → label_right tb.lines tb.stuck tb.faults f ≡ true
+  right_label : (f : ℕ) → f < 60 → label_right tb.lines tb.stuck tb.faults f ≡ true
   unfolding label_right fresh
-  right-label f l = ⊎_elim
+  right_label f l = ⊎_elim
       (λ m. rw (lt-ltb f tb.faults m) (both_true _ _ (le-leb _ _ (w.stuck_fit f m)) (every_of (differ tb.lines tb.stuck f) f (differs f m))))
       (λ m. let z = w.labels_clear f m l in rw (le-ltb f tb.faults m) (both_true _ _ (eq-eqb _ _ z.0) (eq-eqb _ _ z.1)))
       (lt_or_ge f tb.faults)
 
-  right-cell : (t : ℕ) → t < 24 → (c : ℕ) → c < 61 → cell_right tb.cells tb.tests tb.faults t c ≡ true
+  right_cell : (t : ℕ) → t < 24 → (c : ℕ) → c < 61 → cell_right tb.cells tb.tests tb.faults t c ≡ true
   unfolding cell_right
-  right-cell t m c l = go (ltb t tb.tests) (leb c tb.faults) refl refl
+  right_cell t m c l = go (ltb t tb.tests) (leb c tb.faults) refl refl
     where
       go : (a b : Bool) → ltb t tb.tests ≡ a → leb c tb.faults ≡ b → either (both a b) (eqb (output_at tb t c) 0) ≡ true
       go true true p q = refl
@@ -92,8 +92,8 @@ module _ (tb : Table) (w : WellFormed tb) where
   tested =
       both_true _ _ (le-leb _ _ w.tests_fit)
       (both_true _ _ (le-leb _ _ w.faults_fit)
-      (both_true _ _ (every_of (label_right tb.lines tb.stuck tb.faults) 60 right-label)
-      (every_of (row_right tb.cells tb.tests tb.faults) 24 (λ t m. every_of (cell_right tb.cells tb.tests tb.faults t) 61 (right-cell t m)))))
+      (both_true _ _ (every_of (label_right tb.lines tb.stuck tb.faults) 60 right_label)
+      (every_of (row_right tb.cells tb.tests tb.faults) 24 (λ t m. every_of (cell_right tb.cells tb.tests tb.faults t) 61 (right_cell t m)))))
 
 pub tested_by : (tb : Table) (r : Bool) → r ≡ well_formed tb → Tested tb r
 tested_by tb r e = record {
@@ -116,13 +116,13 @@ module _ (tb : Table) (r : Bool) (h : Tested tb r) where
   pub ill : not r ≡ true → WellFormed tb → ⊥
   ill n = tells_no r h.says (not-true r n)
 
-  pub few-tests : not r ≡ false → tb.tests ≤ 24
-  few-tests n = (well n).tests_fit
+  pub few_tests : not r ≡ false → tb.tests ≤ 24
+  few_tests n = (well n).tests_fit
 
-  pub few-columns : not r ≡ false → tb.faults + 1 ≤ 61
-  few-columns n = omega (arith, (well n).faults_fit)
+  pub few_columns : not r ≡ false → tb.faults + 1 ≤ 61
+  few_columns n = omega (arith, (well n).faults_fit)
 
-  pub columns-fit : not r ≡ false → Fits w64 (tb.faults + 1)
-  columns-fit n = record { fits = lt_of_le_of_lt (few-columns n) (lit< tt) }
+  pub columns_fit : not r ≡ false → Fits w64 (tb.faults + 1)
+  columns_fit n = record { fits = lt_of_le_of_lt (few_columns n) (lit< tt) }
 
-pub ruleset admits = (few-tests, few-columns, columns-fit)
+pub ruleset admits = (few_tests, few_columns, columns_fit)

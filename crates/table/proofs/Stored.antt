@@ -7,8 +7,8 @@ use native.Mathlib.Omega.{arith}
 use lib.ListN.{length, get_or, set}
 use lib.Seq.{get_or-set_same, get_or-set_other, ext_get_or, set_out}
 use Rattle.folds.specs.Fold.{always, listed}
-use Rattle.folds.proofs.Gather.{listed-length, listed-get}
-use Rattle.folds.proofs.All.{all_read, gather-all}
+use Rattle.folds.proofs.Gather.{listed_length, listed_get}
+use Rattle.folds.proofs.All.{all_read, gather_all}
 use Rattle.folds.proofs.Below.{lt_or_ge, eq_or_ne}
 use Rattle.table.specs.Table.{place_of, cell_at}
 use Rattle.table.proofs.Cells.{place_fits, place_test, place_column}
@@ -58,7 +58,7 @@ cell_byte cells b t c = b (place_of t c)
 -- a list of cells with given outputs
 pub cells_of : (out : ℕ → ℕ → ℕ) → ((t c : ℕ) → out t c < 256) → (cells : List ℕ) × (length cells ≡ 1464) × ((t c : ℕ) → t < 24 → c < 61 → cell_at cells t c ≡ out t c) × ((i : ℕ) → get_or cells i 0 < 256)
 unfolding cell_at place_of
-cells_of out small = (listed f 1464, listed-length f 1464, read, bytes)
+cells_of out small = (listed f 1464, listed_length f 1464, read, bytes)
   where
     f : ℕ → ℕ
     f k = out (k / 61) (k % 61)
@@ -67,7 +67,7 @@ cells_of out small = (listed f 1464, listed-length f 1464, read, bytes)
     read t c h k =
         let p : (t * 61 + c) / 61 ≡ t = omega arith in
         let q : (t * 61 + c) % 61 ≡ c = omega arith in
-        listed-get f 1464 (t * 61 + c) (omega arith) ∙ rw (p, q)
+        listed_get f 1464 (t * 61 + c) (omega arith) ∙ rw (p, q)
 
     bytes : (i : ℕ) → get_or (listed f 1464) i 0 < 256
-    bytes = all_read (λ x. x < 256) (omega arith) (listed f 1464) (gather-all (λ x. x < 256) always f 1464 (λ k l e. small (k / 61) (k % 61)))
+    bytes = all_read (λ x. x < 256) (omega arith) (listed f 1464) (gather_all (λ x. x < 256) always f 1464 (λ k l e. small (k / 61) (k % 61)))

@@ -11,8 +11,8 @@ module _ (out : ℕ → ℕ → ℕ) where
   agrees a b t = eqb (out t a) (out t b)
 
   -- column c's output in test t
-  unfoldable pub outputOf : ℕ → ℕ → ℕ
-  outputOf c t = out t c
+  unfoldable pub output_of : ℕ → ℕ → ℕ
+  output_of c t = out t c
 
   module _ (tests : ℕ) where
     -- no test separates the columns a and b
@@ -27,13 +27,13 @@ module _ (out : ℕ → ℕ → ℕ) where
     lowest c = every (apart c) c
 
     -- the lowest column of c's class
-    unfoldable pub lowestOf : ℕ → ℕ
-    lowestOf c = first (alike c) c
+    unfoldable pub lowest_of : ℕ → ℕ
+    lowest_of c = first (alike c) c
 
     -- "Classes are numbered by their lowest column": how many classes have a lower lowest column
-    unfoldable pub classNumber : ℕ → ℕ
-    classNumber c = count lowest (lowestOf c)
+    unfoldable pub class_number : ℕ → ℕ
+    class_number c = count lowest (lowest_of c)
 
     -- "The signature of a column under a set is its outputs in rising test number."
-    abbrev pub outputsUnder : ℕ → ℕ → List ℕ
-    outputsUnder s c = gather (has s) (outputOf c) tests
+    abbrev pub outputs_under : ℕ → ℕ → List ℕ
+    outputs_under s c = gather (has s) (output_of c) tests

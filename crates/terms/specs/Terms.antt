@@ -7,7 +7,7 @@ use Rattle.table.specs.Table.{output_at, columns}
 use Rattle.table.specs.declared.Goal.{Goal}
 use Rattle.table.specs.declared.Goal.TheVariants.{Detect, Diagnose}
 use Rattle.table.specs.declared.Table.{Table}
-use Rattle.terms.specs.Columns.{lowest, classNumber, outputsUnder}
+use Rattle.terms.specs.Columns.{lowest, class_number, outputs_under}
 
 -- t is one of the table's tests
 abbrev pub TestOf : Table → ℕ → Type 0
@@ -23,7 +23,7 @@ SeparatedBy tb s a b = (t : ℕ) × TestOf tb t × (bit s t ≡ 1) × Separates 
 
 -- "The signature of a column under a set is its outputs in rising test number."
 abbrev pub signature : Table → ℕ → ℕ → List ℕ
-signature tb s c = outputsUnder (output_at tb) tb.tests s c
+signature tb s c = outputs_under (output_at tb) tb.tests s c
 
 -- "Columns that no test separates form a class."
 abbrev pub Alike : Table → ℕ → ℕ → Type 0
@@ -35,7 +35,7 @@ Undetectable tb f = Alike tb 0 (f + 1)
 
 -- "Classes are numbered by their lowest column."
 abbrev pub class_of : Table → ℕ → ℕ
-class_of tb c = classNumber (output_at tb) tb.tests c
+class_of tb c = class_number (output_at tb) tb.tests c
 
 abbrev pub class_count : Table → ℕ
 class_count tb = count (lowest (output_at tb) tb.tests) (columns tb)

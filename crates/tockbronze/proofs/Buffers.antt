@@ -23,7 +23,7 @@ use Rattle.terms_laws.proofs.Classes.{few_classes}
 use Rattle.lent.specs.Lent.{set_number, WritesOnto}
 use Rattle.lent.proofs.Lent.{wrote_formed}
 use Rattle.dictionary.specs.Dictionary.{dictionary_of}
-use Rattle.dictionary.proofs.Rows.{rows-size}
+use Rattle.dictionary.proofs.Rows.{rows_size}
 use Rattle.witness.specs.Witness.{sheet_of}
 use Rattle.witness.proofs.Meaning.{sheet_length}
 use Rattle.flat.specs.Flat.{lent_table}
@@ -49,7 +49,7 @@ count_small tb s answer d small (Refused why) e w = omega arith
 pub dictionary_small : (tb : Table) (s : ℕ) (d : List ℕ) (a : Written) (e : List ℕ) → WritesOnto (set_number tb s) (dictionary_of tb s) d a e → written_count a < value_limit
 dictionary_small tb s d = count_small tb s (dictionary_of tb s) d λ w.
     let n : count (has s) tb.tests ≤ 24 = omega (arith, w.tests_fit, count_le (has s) tb.tests) in
-    omega (arith, rows-size (output_at tb) tb.tests s (class_count tb) (count (has s) tb.tests) (columns tb) refl refl, mul-le-mul (few_classes tb w) n)
+    omega (arith, rows_size (output_at tb) tb.tests s (class_count tb) (count (has s) tb.tests) (columns tb) refl refl, mul-le-mul (few_classes tb w) n)
 
 pub sheet_small : (tb : Table) (s : ℕ) (d : List ℕ) (a : Written) (e : List ℕ) → WritesOnto (set_number tb s) (sheet_of tb s) d a e → written_count a < value_limit
 sheet_small tb s d = count_small tb s (sheet_of tb s) d λ w.

@@ -17,11 +17,11 @@ use Rattle.flat.proofs.Numbers.{cap_high, cap_low}
 use Rattle.tockbronze.specs.Calls.{ForGoal}
 
 module _ (Given : Table → Goal → Chosen → Type 0) (bytes : List ℕ) (goal r : ℕ) (tb : Table) (lent : tb ≡ lent_table bytes) where
-  pub no-goal : 1 < goal → r ≡ unknown_goal tb → ForGoal Given bytes goal r
-  no-goal h e = inr (h, rw lent at e)
+  pub no_goal : 1 < goal → r ≡ unknown_goal tb → ForGoal Given bytes goal r
+  no_goal h e = inr (h, rw lent at e)
 
-  pub for-goal : (g : Goal) (a : Chosen) → goal ≤ 1 → g ≡ goal_of goal → Given tb g a → r ≡ packed (chosen_number a) (chosen_set a) → ForGoal Given bytes goal r
-  for-goal g a h eg given e = inl (h, record { answer = a; given = rw (sym lent, sym eg) given; is = e })
+  pub for_goal : (g : Goal) (a : Chosen) → goal ≤ 1 → g ≡ goal_of goal → Given tb g a → r ≡ packed (chosen_number a) (chosen_set a) → ForGoal Given bytes goal r
+  for_goal g a h eg given e = inl (h, record { answer = a; given = rw (sym lent, sym eg) given; is = e })
 
 -- a choice within 25 tests is refused as one within any cap above 24
 over : (tb : Table) (goal : Goal) (cap : ℕ) → 24 < cap → (a : Chosen) → ChoiceIs tb goal 25 a → ChoiceIs tb goal cap a

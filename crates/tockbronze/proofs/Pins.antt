@@ -14,7 +14,7 @@ use Rattle.table.specs.declared.Verdict.TheVariants.{Accepted, Refused}
 use Rattle.book.specs.Reading.{read_book}
 use Rattle.cover.proofs.Pins.{set_aside_pins, essential_pins}
 use Rattle.classes.proofs.Pins.{undetectable_pins}
-use Rattle.choice.proofs.Pins.{choose-pins}
+use Rattle.choice.proofs.Pins.{choose_pins}
 use Rattle.report.proofs.Pins.{text_one}
 use Rattle.flat.specs.Flat.{lent_table, bytes_of}
 use Rattle.flat.specs.Packed.{packed, goal_of}
@@ -32,14 +32,14 @@ for_goal_pins Given one bytes goal r₁ r₂ (inr (h, p)) (inl (k, q)) = absurd 
 for_goal_pins Given one bytes goal r₁ r₂ (inr (h, p)) (inr (k, q)) = p ∙ sym q
 
 module _ (bytes : List ℕ) (goal : ℕ) where
-  pub tockbronze-set-aside-pins : (r₁ r₂ : ℕ) → AsideCall bytes goal r₁ → AsideCall bytes goal r₂ → r₁ ≡ r₂
-  tockbronze-set-aside-pins = for_goal_pins GivesAside set_aside_pins bytes goal
+  pub tockbronze_set_aside_pins : (r₁ r₂ : ℕ) → AsideCall bytes goal r₁ → AsideCall bytes goal r₂ → r₁ ≡ r₂
+  tockbronze_set_aside_pins = for_goal_pins GivesAside set_aside_pins bytes goal
 
-  pub tockbronze-essential-pins : (r₁ r₂ : ℕ) → EssentialCall bytes goal r₁ → EssentialCall bytes goal r₂ → r₁ ≡ r₂
-  tockbronze-essential-pins = for_goal_pins GivesEssential essential_pins bytes goal
+  pub tockbronze_essential_pins : (r₁ r₂ : ℕ) → EssentialCall bytes goal r₁ → EssentialCall bytes goal r₂ → r₁ ≡ r₂
+  tockbronze_essential_pins = for_goal_pins GivesEssential essential_pins bytes goal
 
-  pub tockbronze-choose-pins : (cap r₁ r₂ : ℕ) → ChooseCall bytes goal cap r₁ → ChooseCall bytes goal cap r₂ → r₁ ≡ r₂
-  tockbronze-choose-pins cap = for_goal_pins (GivesChoice cap) (λ tb g. choose-pins tb g cap) bytes goal
+  pub tockbronze_choose_pins : (cap r₁ r₂ : ℕ) → ChooseCall bytes goal cap r₁ → ChooseCall bytes goal cap r₂ → r₁ ≡ r₂
+  tockbronze_choose_pins cap = for_goal_pins (GivesChoice cap) (λ tb g. choose_pins tb g cap) bytes goal
 
 -- ---- the calls that write to a lent buffer: one number and one buffer
 
@@ -47,17 +47,17 @@ call_pins : (earlier value : ℕ) (answer d : List ℕ) (r₁ r₂ : ℕ) (e₁ 
 call_pins earlier value answer d r₁ r₂ e₁ e₂ a b = (a.is ∙ sym b.is, a.buffer ∙ sym b.buffer)
 
 module _ (bytes d : List ℕ) (r₁ r₂ : ℕ) (e₁ e₂ : List ℕ) where
-  pub tockbronze-classes-pins : ClassesCall bytes d r₁ e₁ → ClassesCall bytes d r₂ e₂ → (r₁ ≡ r₂) × (e₁ ≡ e₂)
-  tockbronze-classes-pins = call_pins _ _ _ d r₁ r₂ e₁ e₂
+  pub tockbronze_classes_pins : ClassesCall bytes d r₁ e₁ → ClassesCall bytes d r₂ e₂ → (r₁ ≡ r₂) × (e₁ ≡ e₂)
+  tockbronze_classes_pins = call_pins _ _ _ d r₁ r₂ e₁ e₂
 
-  pub tockbronze-dictionary-pins : (s : ℕ) → DictionaryCall bytes s d r₁ e₁ → DictionaryCall bytes s d r₂ e₂ → (r₁ ≡ r₂) × (e₁ ≡ e₂)
-  tockbronze-dictionary-pins s = call_pins _ _ _ d r₁ r₂ e₁ e₂
+  pub tockbronze_dictionary_pins : (s : ℕ) → DictionaryCall bytes s d r₁ e₁ → DictionaryCall bytes s d r₂ e₂ → (r₁ ≡ r₂) × (e₁ ≡ e₂)
+  tockbronze_dictionary_pins s = call_pins _ _ _ d r₁ r₂ e₁ e₂
 
-  pub tockbronze-witness-sheet-pins : (s : ℕ) → SheetCall bytes s d r₁ e₁ → SheetCall bytes s d r₂ e₂ → (r₁ ≡ r₂) × (e₁ ≡ e₂)
-  tockbronze-witness-sheet-pins s = call_pins _ _ _ d r₁ r₂ e₁ e₂
+  pub tockbronze_witness_sheet_pins : (s : ℕ) → SheetCall bytes s d r₁ e₁ → SheetCall bytes s d r₂ e₂ → (r₁ ≡ r₂) × (e₁ ≡ e₂)
+  tockbronze_witness_sheet_pins s = call_pins _ _ _ d r₁ r₂ e₁ e₂
 
-  pub tockbronze-suspects-pins : (s : ℕ) (seen : List ℕ) → SuspectsCall bytes s seen d r₁ e₁ → SuspectsCall bytes s seen d r₂ e₂ → (r₁ ≡ r₂) × (e₁ ≡ e₂)
-  tockbronze-suspects-pins s seen = call_pins _ _ _ d r₁ r₂ e₁ e₂
+  pub tockbronze_suspects_pins : (s : ℕ) (seen : List ℕ) → SuspectsCall bytes s seen d r₁ e₁ → SuspectsCall bytes s seen d r₂ e₂ → (r₁ ≡ r₂) × (e₁ ≡ e₂)
+  tockbronze_suspects_pins s seen = call_pins _ _ _ d r₁ r₂ e₁ e₂
 
 pub tockbronze_report_pins : (book d : List ℕ) (r₁ r₂ : ℕ) (e₁ e₂ : List ℕ) → ReportCall book d r₁ e₁ → ReportCall book d r₂ e₂ → (r₁ ≡ r₂) × (e₁ ≡ e₂)
 tockbronze_report_pins book d r₁ r₂ e₁ e₂ a b =

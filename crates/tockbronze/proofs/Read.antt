@@ -19,17 +19,17 @@ module _ (book : List ℕ) (a : Reading) (ea : a ≡ read_book book) where
   pub near : a.place ≤ 5991
   near = rw ea (place_most book).0
 
-  read-formed : a.verdict ≡ Accepted → WellFormed a.table
-  read-formed v = rw ea (accepted_gave book _ (accepts_whole book (rw ea at v))).formed
+  read_formed : a.verdict ≡ Accepted → WellFormed a.table
+  read_formed v = rw ea (accepted_gave book _ (accepts_whole book (rw ea at v))).formed
 
-  pub few-tests : a.verdict ≡ Accepted → a.table.tests ≤ 24
-  few-tests v = (read-formed v).tests_fit
+  pub few_tests : a.verdict ≡ Accepted → a.table.tests ≤ 24
+  few_tests v = (read_formed v).tests_fit
 
-  pub few-faults : a.verdict ≡ Accepted → a.table.faults ≤ 60
-  few-faults v = (read-formed v).faults_fit
+  pub few_faults : a.verdict ≡ Accepted → a.table.faults ≤ 60
+  few_faults v = (read_formed v).faults_fit
 
-  pub read-accepted : (d : List ℕ) (r : ℕ) (e : List ℕ) → a.verdict ≡ Accepted → CallWrites 0 a.place (bytes_of a.table) d r e → ReadCall book d r e
-  read-accepted d r e v w = let q : (read_book book).verdict ≡ Accepted = rw ea at v in rw q (rw ea at w)
+  pub read_accepted : (d : List ℕ) (r : ℕ) (e : List ℕ) → a.verdict ≡ Accepted → CallWrites 0 a.place (bytes_of a.table) d r e → ReadCall book d r e
+  read_accepted d r e v w = let q : (read_book book).verdict ≡ Accepted = rw ea at v in rw q (rw ea at w)
 
-  pub read-refused : (d : List ℕ) (why : Refusal) (r : ℕ) → a.verdict ≡ Refused why → r ≡ packed (number_of why) a.place → ReadCall book d r d
-  read-refused d why r v er = let q : (read_book book).verdict ≡ Refused why = rw ea at v in rw q (rw ea at er, refl)
+  pub read_refused : (d : List ℕ) (why : Refusal) (r : ℕ) → a.verdict ≡ Refused why → r ≡ packed (number_of why) a.place → ReadCall book d r d
+  read_refused d why r v er = let q : (read_book book).verdict ≡ Refused why = rw ea at v in rw q (rw ea at er, refl)

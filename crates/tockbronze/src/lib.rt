@@ -1,6 +1,7 @@
 // The calls for programs in other languages, on numbers and bytes. A table is lent as 1,586 bytes; an answer is one number, the
 // refusal in its low 8 bits and the value above them.
 #![tactic(auto)]
+
 ghost use Rattle.tockbronze.specs.Calls.{AsideCall, EssentialCall, ChooseCall, DictionaryCall, SheetCall, ReportCall, ClassesCall, SuspectsCall, UndetectableCall, ReadCall};
 
 use flat::inner::{answers, bytes, marks, tables};
@@ -76,12 +77,7 @@ pub fn tockbronze_classes(table: &[u8], of: &mut [u8]) -> u64
 }
 
 // The suspects for the observed outputs.
-pub fn tockbronze_suspects(
-    table: &[u8],
-    set: u32,
-    outputs: &[u8],
-    columns: &mut [u8],
-) -> u64
+pub fn tockbronze_suspects(table: &[u8], set: u32, outputs: &[u8], columns: &mut [u8]) -> u64
     ensures { SuspectsCall table.now set outputs.now columns.old result columns.new }
 {
     let answer = suspects::suspects_of(tables::table_in(table), set, outputs);

@@ -1,5 +1,6 @@
 // The exports for C: each calls the library's function of the same name and makes its promise again.
 #![tactic(auto)]
+
 ghost use Rattle.tockbronze.specs.Calls.{AsideCall, EssentialCall, ChooseCall, DictionaryCall, SheetCall, ReportCall, ClassesCall, SuspectsCall, UndetectableCall, ReadCall};
 
 // The tests that are set aside for the goal.

@@ -11,15 +11,15 @@ use mir.Syntax.{w64}
 use mir.Val.{Fits}
 use Rattle.folds.specs.Fold.{count, joined}
 use Rattle.folds.proofs.Count.{count_none, count_yes, count_no, count_less, count_le}
-use Rattle.folds.proofs.Joined.{joined-none, rows_at, rows_stay}
+use Rattle.folds.proofs.Joined.{joined_none, rows_at, rows_stay}
 use Rattle.table.specs.Table.{cell_at}
 use Rattle.table.specs.Test.{Tested}
 use Rattle.table.specs.declared.Table.{Table}
-use Rattle.table.proofs.Formed.{few-columns}
+use Rattle.table.proofs.Formed.{few_columns}
 use Rattle.terms.specs.Columns.{lowest}
-use Rattle.terms_laws.proofs.Classes.{lowest-zero}
-use Rattle.witness.specs.Witness.{witnesses, sheetUnder}
-use Rattle.witness.proofs.Rows.{row-length}
+use Rattle.terms_laws.proofs.Classes.{lowest_zero}
+use Rattle.witness.specs.Witness.{witnesses, sheet_under}
+use Rattle.witness.proofs.Rows.{row_length}
 
 -- one class more
 step : (sum r row k : ℕ) → 2 * sum + (r * r + r) ≡ 2 * (r * k) → row + (r + 1) ≡ k → 2 * (sum + row) + ((r + 1) * (r + 1) + (r + 1)) ≡ 2 * ((r + 1) * k)
@@ -34,10 +34,10 @@ module _ (out : ℕ → ℕ → ℕ) (tests s n : ℕ) where
   rows_to i = length (joined (lowest out tests) (witnesses out tests s n) i)
 
   -- with r of k classes below column i, twice the bytes of their rows: r (2 k - r - 1)
-  pub rows-sum : (i : ℕ) → i ≤ n
+  pub rows_sum : (i : ℕ) → i ≤ n
       → 2 * rows_to i + (count (lowest out tests) i * count (lowest out tests) i + count (lowest out tests) i) ≡ 2 * (count (lowest out tests) i * count (lowest out tests) n)
-  rows-sum zero w = simp (joined-none, count_none, zero-mul)
-  rows-sum (suc i) w = go (lowest out tests i) refl (rows-sum i (omega arith))
+  rows_sum zero w = simp (joined_none, count_none, zero-mul)
+  rows_sum (suc i) w = go (lowest out tests i) refl (rows_sum i (omega arith))
     where
       r : ℕ
       r = count (lowest out tests) i
@@ -50,30 +50,30 @@ module _ (out : ℕ → ℕ → ℕ) (tests s n : ℕ) where
       go true e h =
           let c : count (lowest out tests) (suc i) ≡ r + 1 = rw (← add-one i) (count_yes (lowest out tests) i e) in
           let next : rows_to (suc i) ≡ rows_to i + length (witnesses out tests s n i) = rw (← add-one i) (sym (rows_at (lowest out tests) (witnesses out tests s n) i _ _ _ true refl (sym e) refl refl refl)) in
-          rw (next, c) (step (rows_to i) r (length (witnesses out tests s n i)) k h (row-length out tests s n i w e))
+          rw (next, c) (step (rows_to i) r (length (witnesses out tests s n i)) k h (row_length out tests s n i w e))
       go false e h =
           let c : count (lowest out tests) (suc i) ≡ r = rw (← add-one i) (count_no (lowest out tests) i e) in
           let next : rows_to (suc i) ≡ rows_to i = rw (← add-one i) (sym (rows_stay (lowest out tests) (witnesses out tests s n) i _ _ false refl (sym e) refl refl)) in
           rw (next, c) h
 
   -- the sheet has k (k - 1) / 2 bytes
-  pub sheet-size : (k : ℕ) → k ≡ count (lowest out tests) n → k * (k - 1) / 2 ≡ length (sheetUnder out tests s n)
-  sheet-size k e =
-      let sum = rows-sum n (omega arith) in
+  pub sheet_size : (k : ℕ) → k ≡ count (lowest out tests) n → k * (k - 1) / 2 ≡ length (sheet_under out tests s n)
+  sheet_size k e =
+      let sum = rows_sum n (omega arith) in
       let f : k * (k - 1) ≡ k * k - k = mul-sub k k 1 ∙ rw mul-one in
       let g : count (lowest out tests) n * count (lowest out tests) n ≡ k * k = rw e in
       omega arith
 
-  pub sheet-fits : (k room : ℕ) → k ≡ count (lowest out tests) n → k * (k - 1) / 2 ≤ room → length (sheetUnder out tests s n) ≤ room
-  sheet-fits k room e h = rw (← sheet-size k e) h
+  pub sheet_fits : (k room : ℕ) → k ≡ count (lowest out tests) n → k * (k - 1) / 2 ≤ room → length (sheet_under out tests s n) ≤ room
+  sheet_fits k room e h = rw (← sheet_size k e) h
 
 -- there is a class at least, that of column 0
 pub some_class : (out : ℕ → ℕ → ℕ) (tests f k : ℕ) → k ≡ count (lowest out tests) (f + 1) → 1 ≤ k
-some_class out tests f k e = omega (arith, count_less (lowest out tests) 0 (f + 1) (omega arith) (lowest-zero out tests))
+some_class out tests f k e = omega (arith, count_less (lowest out tests) 0 (f + 1) (omega arith) (lowest_zero out tests))
 
 -- how many bytes they are fits
 pub pairs_fit : (tb : Table) (r : Bool) → Tested tb r → not r ≡ false → (k : ℕ) → k ≡ count (lowest (cell_at tb.cells) tb.tests) (tb.faults + 1) → Fits w64 (k * (k - 1))
 pairs_fit tb r t q k e =
-    let a : k ≤ 61 = omega (arith, few-columns tb r t q, count_le (lowest (cell_at tb.cells) tb.tests) (tb.faults + 1)) in
+    let a : k ≤ 61 = omega (arith, few_columns tb r t q, count_le (lowest (cell_at tb.cells) tb.tests) (tb.faults + 1)) in
     let b : k - 1 ≤ 61 = omega arith in
     record { fits = lt_of_le_of_lt (mul-le-mul a b) (lit< tt) }

@@ -18,12 +18,12 @@ module _ (out : ℕ → ℕ → ℕ) where
 
   module _ (tests : ℕ) where
     -- the number of the lowest test of s that separates the columns a and b, and `tests` where none does
-    abbrev pub lowestTest : ℕ → ℕ → ℕ → ℕ
-    lowestTest s a b = first (separates s a b) tests
+    abbrev pub lowest_test : ℕ → ℕ → ℕ → ℕ
+    lowest_test s a b = first (separates s a b) tests
 
     -- "the lowest test of the set that separates them, or 255 where none does"
-    unfoldable pub witnessOf : ℕ → ℕ → ℕ → ℕ
-    witnessOf s a b = pick (ltb (lowestTest s a b) tests) (lowestTest s a b) 255
+    unfoldable pub witness_of : ℕ → ℕ → ℕ → ℕ
+    witness_of s a b = pick (ltb (lowest_test s a b) tests) (lowest_test s a b) 255
 
     -- column b is the lowest of its class, and above column a
     unfoldable pub above : ℕ → ℕ → Bool
@@ -31,11 +31,11 @@ module _ (out : ℕ → ℕ → ℕ) where
 
     -- the witnesses of column a with the lowest column of each class above a's, of the columns below n; a is the lowest of its own
     abbrev pub witnesses : ℕ → ℕ → ℕ → List ℕ
-    witnesses s n a = gather (above a) (witnessOf s a) n
+    witnesses s n a = gather (above a) (witness_of s a) n
 
     -- "one byte for each two classes, .. ordered by lower class and then by higher"
-    abbrev pub sheetUnder : ℕ → ℕ → List ℕ
-    sheetUnder s n = joined (lowest out tests) (witnesses s n) n
+    abbrev pub sheet_under : ℕ → ℕ → List ℕ
+    sheet_under s n = joined (lowest out tests) (witnesses s n) n
 
 abbrev pub sheet_of : Table → ℕ → List ℕ
-sheet_of tb s = sheetUnder (output_at tb) tb.tests s (columns tb)
+sheet_of tb s = sheet_under (output_at tb) tb.tests s (columns tb)

@@ -4,7 +4,7 @@ ghost use Rattle.folds.specs.Fold.{count, onto};
 ghost use Rattle.table.specs.Table.{cell_at};
 ghost use Rattle.terms.specs.Columns.{lowest};
 ghost use Rattle.sets.specs.Collect.{set_of};
-ghost use Rattle.witness.specs.Witness.{separates, witnessOf, above, above_in, witnesses, sheetUnder};
+ghost use Rattle.witness.specs.Witness.{separates, witness_of, above, above_in, witnesses, sheet_under};
 
 // Whether test t is in the set and separates the columns a and b.
 fn separates(cells: &[u8; 1464], set: u32, a: usize, b: usize, t: usize) -> bool
@@ -20,7 +20,7 @@ fn separates(cells: &[u8; 1464], set: u32, a: usize, b: usize, t: usize) -> bool
 // The lowest test of the set that separates the columns a and b, or 255.
 fn witness(cells: &[u8; 1464], tests: usize, set: u32, a: usize, b: usize) -> u8
     requires { (tests ≤ 24) × (a < 61) × (b < 61) }
-    ensures { result ≡ witnessOf (cell_at cells.now) tests set a b }
+    ensures { result ≡ witness_of (cell_at cells.now) tests set a b }
 {
     let mut i = 0;
     while i < tests {
@@ -76,8 +76,8 @@ pub fn write_sheet(
     k: usize,
     buf: &mut [u8],
 )
-    requires { (tests ≤ 24) × (columns ≤ 61) × (k ≡ count (lowest (cell_at cells.now) tests) columns) × (length (sheetUnder (cell_at cells.now) tests set columns) ≤ length buf.old) }
-    ensures { buf.new ≡ onto (sheetUnder (cell_at cells.now) tests set columns) buf.old }
+    requires { (tests ≤ 24) × (columns ≤ 61) × (k ≡ count (lowest (cell_at cells.now) tests) columns) × (length (sheet_under (cell_at cells.now) tests set columns) ≤ length buf.old) }
+    ensures { buf.new ≡ onto (sheet_under (cell_at cells.now) tests set columns) buf.old }
 {
     let lows = classes::inner::lowest_set(cells, tests, columns);
     let mut left = k;

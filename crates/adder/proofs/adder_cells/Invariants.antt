@@ -3,7 +3,7 @@ use Prim.Native.Nat.{◌≤◌, ◌-◌}
 use native.Mathlib.Omega.{arith}
 use borrow.Author.Rules.{rules}
 use Rattle.adder.specs.Adder.{answered}
-use Rattle.adder.proofs.Fill.{answer-test, answer-fault, answers_start, answers_store, answers_end}
+use Rattle.adder.proofs.Fill.{answer_test, answer_fault, answers_start, answers_store, answers_end}
 use Rattle.table.proofs.Cells.{place_below}
 use Rattle.adder.proofs.adder_cells.Given as goal
 

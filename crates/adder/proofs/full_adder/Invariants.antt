@@ -2,7 +2,7 @@ use mathlib.Core.Path.{◌≡◌}
 use Prim.Native.Nat.{◌≤◌, ◌-◌}
 use borrow.Author.Rules.{rules}
 use Rattle.adder.specs.Adder.{line_label, no_labels, stuck_label}
-use Rattle.adder.proofs.Fill.{labels-start, labels-store, table_right}
+use Rattle.adder.proofs.Fill.{labels_start, labels_store, table_right}
 use Rattle.folds.specs.Fold.{listed, onto}
 use Rattle.adder.proofs.full_adder.Given as goal
 

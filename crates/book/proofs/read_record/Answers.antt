@@ -1,7 +1,7 @@
 use Rattle.records.proofs.Judged.{judges}
 use Rattle.book.proofs.Sounds.{sound_counts}
 use Rattle.book.specs.Sound.{call_rule, record_at}
-use Rattle.records.specs.Step.{stepAt}
+use Rattle.records.specs.Step.{step_at}
 use Rattle.book.proofs.read_record.Goals as goal
 
 pub returns-then-not-is_sound : goal.returns-then-not-is_sound
@@ -16,5 +16,5 @@ pub step-requires : goal.step-requires
 step-requires c = search sound_counts
 
 pub returns : goal.returns
-unfolding record_at call_rule stepAt
+unfolding record_at call_rule step_at
 returns c = search judges depth 14

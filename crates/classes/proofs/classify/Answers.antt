@@ -1,12 +1,12 @@
 use borrow.Author.Rules.{rules}
 use Rattle.table.proofs.Formed.{admits}
 use Rattle.classes.specs.Classes.{unnumbered}
-use Rattle.classes.proofs.Calls.{classify-20, classify-0}
+use Rattle.classes.proofs.Calls.{classify_20, classify_0}
 use Rattle.classes.proofs.classify.Goals as goal
 
 pub returns-then-not-well_formed : goal.returns-then-not-well_formed
 unfolding unnumbered
-returns-then-not-well_formed c = search classify-20
+returns-then-not-well_formed c = search classify_20
 
 pub overflow_add-columns : goal.overflow_add-columns
 overflow_add-columns c = search admits
@@ -18,4 +18,4 @@ pub class_count-requires : goal.class_count-requires
 class_count-requires c = search admits
 
 pub returns : goal.returns
-returns c = search classify-0
+returns c = search classify_0

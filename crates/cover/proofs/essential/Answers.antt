@@ -1,7 +1,7 @@
 use mathlib.Core.Bool.{not}
 use mathlib.Core.Path.{refl, ap}
 use Rattle.table.proofs.Formed.{well, ill}
-use Rattle.cover.proofs.Aside.{essential-exactly}
+use Rattle.cover.proofs.Aside.{essential_exactly}
 use Rattle.cover.proofs.essential.Goals as goal
 
 pub returns-then-not-well_formed : goal.returns-then-not-well_formed
@@ -14,4 +14,4 @@ pub lone_for-requires : goal.lone_for-requires
 lone_for-requires c = let w = well _ _ c.well_formed-2.ensures (ap not c.if-not-well_formed.false) in (w.tests_fit, w.faults_fit)
 
 pub returns : goal.returns
-returns c = (well _ _ c.well_formed-2.ensures (ap not c.if-not-well_formed.false), rw (c.lone_for.ensures, c.kept_for.ensures) (essential-exactly _ _))
+returns c = (well _ _ c.well_formed-2.ensures (ap not c.if-not-well_formed.false), rw (c.lone_for.ensures, c.kept_for.ensures) (essential_exactly _ _))

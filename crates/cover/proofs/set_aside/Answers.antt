@@ -4,7 +4,7 @@ use native.Mathlib.Omega.{arith}
 use Rattle.table.proofs.Formed.{well, ill}
 use Rattle.table.specs.WellFormed.{WellFormed}
 use Rattle.sets.proofs.Collect.{one_shl}
-use Rattle.cover.proofs.Aside.{kept-fits, aside-exactly}
+use Rattle.cover.proofs.Aside.{kept_fits, aside_exactly}
 use Rattle.cover.proofs.set_aside.Goals.{Else-not-well_formed}
 use Rattle.cover.proofs.set_aside.Goals as goal
 
@@ -21,13 +21,13 @@ pub overflow_shl-result : goal.overflow_shl-result
 overflow_shl-result c = omega (arith, (formed (goal.at.overflow_shl-result c).Else-not-well_formed).tests_fit)
 
 pub overflow_sub-result : goal.overflow_sub-result
-overflow_sub-result c = rw (one_shl 32 c.args.table.tests (omega (arith, (formed (goal.at.overflow_sub-result c).Else-not-well_formed).tests_fit))) (omega (arith, kept-fits c.args.table c.args.goal))
+overflow_sub-result c = rw (one_shl 32 c.args.table.tests (omega (arith, (formed (goal.at.overflow_sub-result c).Else-not-well_formed).tests_fit))) (omega (arith, kept_fits c.args.table c.args.goal))
 
 pub kept_for-requires : goal.kept_for-requires
 kept_for-requires c = ((formed (goal.at.kept_for-requires c).Else-not-well_formed).tests_fit, (formed (goal.at.kept_for-requires c).Else-not-well_formed).faults_fit)
 
 pub overflow_sub-result-2 : goal.overflow_sub-result-2
-overflow_sub-result-2 c = rw (one_shl 32 c.args.table.tests (omega (arith, (formed (goal.at.overflow_sub-result-2 c).Else-not-well_formed).tests_fit))) (omega (arith, c.kept_for.ensures, kept-fits c.args.table c.args.goal))
+overflow_sub-result-2 c = rw (one_shl 32 c.args.table.tests (omega (arith, (formed (goal.at.overflow_sub-result-2 c).Else-not-well_formed).tests_fit))) (omega (arith, c.kept_for.ensures, kept_fits c.args.table c.args.goal))
 
 pub returns : goal.returns
-returns c = (formed (goal.at.returns c).Else-not-well_formed, rw (one_shl 32 c.args.table.tests (omega (arith, (formed (goal.at.returns c).Else-not-well_formed).tests_fit)), c.kept_for.ensures) (aside-exactly _ _))
+returns c = (formed (goal.at.returns c).Else-not-well_formed, rw (one_shl 32 c.args.table.tests (omega (arith, (formed (goal.at.returns c).Else-not-well_formed).tests_fit)), c.kept_for.ensures) (aside_exactly _ _))

@@ -1,17 +1,17 @@
 use borrow.Author.Rules.{rules}
 use Rattle.table.proofs.Formed.{admits}
-use Rattle.lent.proofs.Lent.{writes-20, writes-21, writes-24, writes-0}
-use Rattle.dictionary.proofs.Rows.{rows-size, rows_fit, bytes_fit}
+use Rattle.lent.proofs.Lent.{writes_20, writes_21, writes_24, writes_0}
+use Rattle.dictionary.proofs.Rows.{rows_size, rows_fit, bytes_fit}
 use Rattle.dictionary.proofs.dictionary.Goals as goal
 
 pub returns-then-not-well_formed : goal.returns-then-not-well_formed
-returns-then-not-well_formed c = search writes-20
+returns-then-not-well_formed c = search writes_20
 
 pub within-requires : goal.within-requires
 within-requires c = search admits
 
 pub returns-then-not-within : goal.returns-then-not-within
-returns-then-not-within c = search writes-21
+returns-then-not-within c = search writes_21
 
 pub overflow_add-columns : goal.overflow_add-columns
 overflow_add-columns c = search admits
@@ -26,7 +26,7 @@ pub overflow_mul-bytes : goal.overflow_mul-bytes
 overflow_mul-bytes c = search bytes_fit
 
 pub returns-then-buf-bytes : goal.returns-then-buf-bytes
-returns-then-buf-bytes c = search (writes-24, rows-size)
+returns-then-buf-bytes c = search (writes_24, rows_size)
 
 pub write_rows-requires : goal.write_rows-requires
 write_rows-requires c = (
@@ -37,4 +37,4 @@ write_rows-requires c = (
 )
 
 pub returns : goal.returns
-returns c = search (writes-0, rows-size)
+returns c = search (writes_0, rows_size)

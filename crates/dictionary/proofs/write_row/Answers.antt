@@ -6,16 +6,16 @@ use borrow.Author.Rules.{rules}
 use lib.ListN.{length}
 use Rattle.folds.specs.Fold.{count, gather, onto}
 use Rattle.folds.proofs.Count.{tally, count_start, count_fits}
-use Rattle.folds.proofs.Gather.{gathers, gather-start}
+use Rattle.folds.proofs.Gather.{gathers, gather_start}
 use Rattle.folds.proofs.Onto.{keeps}
 use Rattle.sets.specs.Sets.{has}
 use Rattle.table.specs.Table.{cell_at}
-use Rattle.terms.specs.Columns.{outputOf}
+use Rattle.terms.specs.Columns.{output_of}
 use Rattle.dictionary.proofs.write_row.Goals.{then-has, else-has}
 use Rattle.dictionary.proofs.write_row.Goals as goal
 
 pub loop-i-init : goal.loop-i-init
-loop-i-init c = (search rules, count_start _, gather-start _ _ _, search rules)
+loop-i-init c = (search rules, count_start _, gather_start _ _ _, search rules)
 
 pub bounds-row-j : goal.bounds-row-j
 bounds-row-j c = search gathers
@@ -24,7 +24,7 @@ pub overflow_add-j : goal.overflow_add-j
 overflow_add-j c = omega (arith, count_fits _ _ _ c.loop-i.invariant.1)
 
 pub loop-i-preserved : goal.loop-i-preserved
-unfolding outputOf
+unfolding output_of
 loop-i-preserved c = (
   search rules,
   elim c.if-has.branch [ then-has w ↦ search tally | else-has w ↦ search tally ],

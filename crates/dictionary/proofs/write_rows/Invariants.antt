@@ -3,12 +3,12 @@ use mathlib.Core.Logic.{⊎_elim}
 use Prim.Native.Nat.{◌≤◌, ◌-◌}
 use borrow.Author.Rules.{rules}
 use lib.ListN.{length}
-use Rattle.folds.proofs.Joined.{rows_at, rows_stay, rows-put, rows_pass, rows_end, rows-zero, rows_start, rows-room}
+use Rattle.folds.proofs.Joined.{rows_at, rows_stay, rows_put, rows_pass, rows_end, rows_zero, rows_start, rows_room}
 use Rattle.folds.specs.Fold.{onto}
 use Rattle.folds.proofs.Onto.{keeps, part_length, kept_part, part_fits}
 use Rattle.table.specs.Table.{cell_at}
 use Rattle.dictionary.specs.Dictionary.{rows_under}
-use Rattle.dictionary.proofs.Rows.{row-size}
+use Rattle.dictionary.proofs.Rows.{row_size}
 use Rattle.dictionary.proofs.write_rows.Given as goal
 
 abbrev pub invariant-loop-i : goal.invariant-loop-i

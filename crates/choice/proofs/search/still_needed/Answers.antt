@@ -1,5 +1,5 @@
 use borrow.Author.Rules.{rules}
-use Rattle.choice.proofs.Bound.{covered_none, covered-needs, covered_more}
+use Rattle.choice.proofs.Bound.{covered_none, covered_needs, covered_more}
 use Rattle.sets.proofs.Weight.{one_positive}
 use Rattle.choice.proofs.search.still_needed.Goals as goal
 
@@ -7,7 +7,7 @@ pub loop-i-init : goal.loop-i-init
 loop-i-init c = (search rules, covered_none _ _ _ _ _ c.requires.1)
 
 pub returns-then-room-weight : goal.returns-then-room-weight
-returns-then-room-weight c = covered-needs _ _ _ _ _ c.requires.1 _ _ c.loop-i.invariant.1
+returns-then-room-weight c = covered_needs _ _ _ _ _ c.requires.1 _ _ c.loop-i.invariant.1
 
 pub loop-i-preserved : goal.loop-i-preserved
 loop-i-preserved c = (
@@ -16,4 +16,4 @@ loop-i-preserved c = (
 )
 
 pub returns : goal.returns
-returns c = covered-needs _ _ _ _ _ c.requires.1 _ _ c.loop-i.invariant.1
+returns c = covered_needs _ _ _ _ _ c.requires.1 _ _ c.loop-i.invariant.1

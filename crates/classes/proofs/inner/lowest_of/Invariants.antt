@@ -4,7 +4,7 @@ use borrow.Author.Rules.{rules}
 use Rattle.folds.specs.Fold.{first}
 use Rattle.folds.proofs.First.{seek}
 use Rattle.table.specs.Table.{cell_at}
-use Rattle.terms.specs.Columns.{alike, lowestOf}
+use Rattle.terms.specs.Columns.{alike, lowest_of}
 use Rattle.classes.proofs.inner.lowest_of.Given as goal
 
 abbrev pub invariant-loop-i : goal.invariant-loop-i

@@ -3,7 +3,7 @@ use mathlib.Core.Logic.{⊎_elim}
 use Prim.Native.Nat.{◌<◌, ◌≤◌, ◌-◌}
 use native.Mathlib.Omega.{arith}
 use borrow.Author.Rules.{rules}
-use Rattle.sets.proofs.Collect.{set-fits, set-up, collects}
+use Rattle.sets.proofs.Collect.{set_fits, set_up, collects}
 use Rattle.table.specs.Table.{cell_at}
 use Rattle.terms.specs.Columns.{lowest}
 use Rattle.sets.specs.Collect.{set_of}

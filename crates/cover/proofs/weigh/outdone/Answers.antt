@@ -1,5 +1,5 @@
-use Rattle.cover.proofs.Shared.{lower-tells}
+use Rattle.cover.proofs.Shared.{lower_tells}
 use Rattle.cover.proofs.weigh.outdone.Goals as goal
 
 pub returns : goal.returns
-returns c = search lower-tells
+returns c = search lower_tells

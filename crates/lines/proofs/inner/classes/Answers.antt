@@ -1,11 +1,11 @@
 use borrow.Author.Rules.{rules}
 use Rattle.lines.specs.Text.{class_lines}
 use Rattle.lines.proofs.Pieces.{numbered_at}
-use Rattle.text.proofs.Items.{items, items-start}
+use Rattle.text.proofs.Items.{items, items_start}
 use Rattle.lines.proofs.inner.classes.Goals as goal
 
 pub loop-i-init : goal.loop-i-init
-loop-i-init c = (search rules, items-start _ _ _ _)
+loop-i-init c = (search rules, items_start _ _ _ _)
 
 pub class-next-requires : goal.class-next-requires
 class-next-requires c = (search rules, search rules, search numbered_at)

@@ -1,5 +1,5 @@
-use Rattle.lines.proofs.Pieces.{sizes-done}
+use Rattle.lines.proofs.Pieces.{sizes_done}
 use Rattle.lines.proofs.inner.sizes.Goals as goal
 
 pub returns : goal.returns
-returns c = search sizes-done
+returns c = search sizes_done

@@ -5,7 +5,7 @@ use native.Mathlib.Omega.{arith}
 use borrow.Author.Rules.{rules}
 use Rattle.folds.specs.Fold.{count, gather, onto}
 use Rattle.folds.proofs.Count.{tally, count_start, count_fits}
-use Rattle.folds.proofs.Gather.{gather-start, gather-pass}
+use Rattle.folds.proofs.Gather.{gather_start, gather_pass}
 use Rattle.table.specs.Table.{cell_at}
 use Rattle.suspects.specs.Suspects.{suspect, itself, unlisted}
 use Rattle.suspects.proofs.Answers.{list_put, found_end}

@@ -2,7 +2,7 @@ use mathlib.Core.Path.{◌≡◌}
 use mathlib.Core.Bool.{true}
 use Prim.Native.Nat.{◌≤◌, ◌-◌}
 use borrow.Author.Rules.{rules}
-use Rattle.suspects.proofs.Answers.{suspect-stop, suspect-end}
+use Rattle.suspects.proofs.Answers.{suspect_stop, suspect_end}
 use Rattle.folds.specs.Fold.{every, count}
 use Rattle.folds.proofs.Every.{scan, every_none}
 use Rattle.folds.proofs.Count.{count_start}

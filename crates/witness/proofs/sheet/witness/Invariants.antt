@@ -5,7 +5,7 @@ use Rattle.folds.proofs.First.{seek}
 use Rattle.folds.specs.Fold.{first}
 use Rattle.table.specs.Table.{cell_at}
 use Rattle.witness.specs.Witness.{separates}
-use Rattle.witness.proofs.Rows.{witness-found, witness-none}
+use Rattle.witness.proofs.Rows.{witness_found, witness_none}
 use Rattle.witness.proofs.sheet.witness.Given as goal
 
 abbrev pub invariant-loop-i : goal.invariant-loop-i

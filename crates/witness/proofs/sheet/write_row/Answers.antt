@@ -6,16 +6,16 @@ use borrow.Author.Rules.{rules}
 use lib.ListN.{length}
 use Rattle.folds.specs.Fold.{count, gather, onto}
 use Rattle.folds.proofs.Count.{tally, count_start, count_fits}
-use Rattle.folds.proofs.Gather.{gathers, gather-start}
+use Rattle.folds.proofs.Gather.{gathers, gather_start}
 use Rattle.folds.proofs.Onto.{keeps}
 use Rattle.table.specs.Table.{cell_at}
-use Rattle.witness.specs.Witness.{above, witnessOf}
+use Rattle.witness.specs.Witness.{above, witness_of}
 use Rattle.witness.proofs.Rows.{above_in_lem}
 use Rattle.witness.proofs.sheet.write_row.Goals.{then-above, else-above}
 use Rattle.witness.proofs.sheet.write_row.Goals as goal
 
 pub loop-i-init : goal.loop-i-init
-loop-i-init c = (search rules, count_start _, gather-start _ _ _, search rules)
+loop-i-init c = (search rules, count_start _, gather_start _ _ _, search rules)
 
 pub bounds-row-j : goal.bounds-row-j
 bounds-row-j c = search (gathers, above_in_lem)

@@ -4,12 +4,12 @@ use Prim.Native.Nat.{◌≤◌, ◌-◌, ◌+◌}
 use borrow.Author.Rules.{rules}
 use lib.ListN.{length}
 use Rattle.folds.specs.Fold.{count, joined, onto}
-use Rattle.folds.proofs.Joined.{rows-zero, rows_start, rows-room, rows_at, rows_stay, rows-put, rows_pass, rows_end}
+use Rattle.folds.proofs.Joined.{rows_zero, rows_start, rows_room, rows_at, rows_stay, rows_put, rows_pass, rows_end}
 use Rattle.folds.proofs.Onto.{keeps, part_length, kept_part, part_fits}
 use Rattle.table.specs.Table.{cell_at}
 use Rattle.terms.specs.Columns.{lowest}
 use Rattle.witness.specs.Witness.{witnesses}
-use Rattle.witness.proofs.Rows.{low-in, left-start, left-no, left-some, left-above, left-size, left-yes}
+use Rattle.witness.proofs.Rows.{low_in, left_start, left_no, left_some, left_above, left_size, left_yes}
 use Rattle.witness.proofs.sheet.write_sheet.Given as goal
 
 abbrev pub invariant-loop-i : goal.invariant-loop-i

@@ -6,7 +6,7 @@ use Rattle.table.specs.Table.{cell_at}
 use Rattle.text.specs.Text.{Writes}
 use Rattle.text.proofs.Writes.{writes_length}
 use Rattle.flat.specs.Flat.{cell_of}
-use Rattle.flat.proofs.Written.{list-start, list-each, list-end, cell_at_place}
+use Rattle.flat.proofs.Written.{list_start, list_each, list_end, cell_at_place}
 use Rattle.flat.proofs.inner.bytes.write_cells.Given as goal
 
 abbrev pub invariant-loop-k : goal.invariant-loop-k

@@ -4,7 +4,7 @@ use Rattle.folds.specs.Fold.{listed}
 use Rattle.text.specs.Text.{Writes}
 use Rattle.text.proofs.Writes.{writes_length}
 use Rattle.flat.specs.Flat.{label_of}
-use Rattle.flat.proofs.Written.{list-start, list-each, list-end, label_at}
+use Rattle.flat.proofs.Written.{list_start, list_each, list_end, label_at}
 use Rattle.flat.proofs.inner.bytes.write_labels.Given as goal
 
 abbrev pub invariant-loop-f : goal.invariant-loop-f

@@ -3,11 +3,11 @@ use Prim.Native.Nat.{◌≤◌, ◌-◌}
 use borrow.Author.Rules.{rules}
 use Rattle.folds.specs.Fold.{total}
 use Rattle.sets.specs.Sets.{bit}
-use Rattle.flat.proofs.Marked.{sum-start, sum_fits, sum_more, sum-end}
+use Rattle.flat.proofs.Marked.{sum_start, sum_fits, sum_more, sum_end}
 use Rattle.flat.proofs.inner.marks.how_many.Goals as goal
 
 pub loop-f-init : goal.loop-f-init
-loop-f-init c = (search rules, search sum-start)
+loop-f-init c = (search rules, search sum_start)
 
 pub overflow_add-sum : goal.overflow_add-sum
 overflow_add-sum c = search sum_fits
@@ -16,4 +16,4 @@ pub loop-f-preserved : goal.loop-f-preserved
 loop-f-preserved c = (search rules, search sum_more)
 
 pub returns : goal.returns
-returns c = search sum-end
+returns c = search sum_end

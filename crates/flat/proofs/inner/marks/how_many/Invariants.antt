@@ -3,7 +3,7 @@ use Prim.Native.Nat.{◌≤◌, ◌-◌}
 use borrow.Author.Rules.{rules}
 use Rattle.folds.specs.Fold.{total}
 use Rattle.sets.specs.Sets.{bit}
-use Rattle.flat.proofs.Marked.{sum-start, sum_fits, sum_more, sum-end}
+use Rattle.flat.proofs.Marked.{sum_start, sum_fits, sum_more, sum_end}
 use Rattle.flat.proofs.inner.marks.how_many.Given as goal
 
 abbrev pub invariant-loop-f : goal.invariant-loop-f

@@ -4,7 +4,7 @@ use borrow.Author.Rules.{rules}
 use lib.ListN.{length}
 use Rattle.folds.specs.Fold.{listed, onto}
 use Rattle.sets.specs.Sets.{bit}
-use Rattle.flat.proofs.Marked.{marks-start, marks-store, marks-end}
+use Rattle.flat.proofs.Marked.{marks_start, marks_store, marks_end}
 use Rattle.flat.proofs.inner.marks.write_marks.Given as goal
 
 abbrev pub invariant-loop-f : goal.invariant-loop-f

@@ -3,12 +3,12 @@ use Prim.Native.Nat.{◌≤◌, ◌-◌}
 use native.Mathlib.Omega.{arith}
 use borrow.Author.Rules.{rules}
 use Rattle.flat.specs.Flat.{cells_filled}
-use Rattle.flat.proofs.Fill.{cells-start, cells_store, cells-end}
+use Rattle.flat.proofs.Fill.{cells_start, cells_store, cells_end}
 use Rattle.table.proofs.Cells.{place_below}
 use Rattle.flat.proofs.inner.tables.cells_from.Goals as goal
 
 pub loop-k-init : goal.loop-k-init
-loop-k-init c = (search rules, search cells-start)
+loop-k-init c = (search rules, search cells_start)
 
 pub place-at-requires : goal.place-at-requires
 place-at-requires c = (omega arith, omega arith)
@@ -20,4 +20,4 @@ pub loop-k-preserved : goal.loop-k-preserved
 loop-k-preserved c = (search rules, search cells_store)
 
 pub returns : goal.returns
-returns c = search cells-end
+returns c = search cells_end

@@ -3,7 +3,7 @@ use Prim.Native.Nat.{◌≤◌, ◌-◌}
 use native.Mathlib.Omega.{arith}
 use borrow.Author.Rules.{rules}
 use Rattle.flat.specs.Flat.{cells_filled}
-use Rattle.flat.proofs.Fill.{cells-start, cells_store, cells-end}
+use Rattle.flat.proofs.Fill.{cells_start, cells_store, cells_end}
 use Rattle.table.proofs.Cells.{place_below}
 use Rattle.flat.proofs.inner.tables.cells_from.Given as goal
 

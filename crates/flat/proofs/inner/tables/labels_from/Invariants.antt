@@ -3,7 +3,7 @@ use Prim.Native.Nat.{◌≤◌, ◌-◌}
 use borrow.Author.Rules.{rules}
 use Rattle.folds.specs.Fold.{listed, onto}
 use Rattle.flat.specs.Flat.{byte_at}
-use Rattle.flat.proofs.Fill.{no_labels, labels-start, labels-store, labels-end}
+use Rattle.flat.proofs.Fill.{no_labels, labels_start, labels_store, labels_end}
 use Rattle.flat.proofs.inner.tables.labels_from.Given as goal
 
 abbrev pub invariant-loop-f : goal.invariant-loop-f
