@@ -7,7 +7,7 @@ use lib.ListN.{length, take}
 use lib.Seq.{length-take-le}
 use Rattle.folds.proofs.Onto.{onto_length}
 use Rattle.lent.specs.Lent.{WritesOnto}
-use Rattle.lent.proofs.Lent.{room-had}
+use Rattle.lent.proofs.Lent.{room_had}
 use Rattle.report.specs.Answer.{ReportIs}
 use Rattle.table.specs.declared.Written.{Written}
 use Rattle.table.specs.declared.Written.TheVariants.{Bytes}
@@ -15,7 +15,7 @@ use Rattle.table.specs.declared.Written.TheVariants.{Bytes}
 pub printed : (book entry : List ℕ) (r : Written) (n : ℕ) (exit : List ℕ) → r ≡ Bytes n → ReportIs book entry r exit → n ≤ length exit
 printed book entry r n exit e p =
     let w : WritesOnto 0 p.text entry (Bytes n) exit = rw e at p.written in
-    let l = room-had p.text entry w.number in
+    let l = room_had p.text entry w.number in
     omega (arith, w.count, ap length w.buffer, onto_length p.text entry l)
 
 -- the front of a buffer is as long as it says

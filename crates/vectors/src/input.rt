@@ -1,5 +1,5 @@
 // Numbers and tables from the bytes of a case.
-ghost use Rattle.std.specs.Prelude.{length, ◌≡◌, ◌<◌, ◌≤◌, IfOk};
+ghost use Rattle.std.specs.Prelude.{ℕ, length, min, pos, ◌≡◌, ◌<◌, ◌<ℤ◌, ◌≤◌, IfOk};
 
 use std::io;
 use std::io::Read;
@@ -33,7 +33,9 @@ pub fn short(low: u8, high: u8) -> isize {
 
 // That many bytes, but 0 where it is negative and no more than a buffer has.
 pub fn count(bytes: isize, buf: &[u8]) -> usize
-    ensures { result ≤ length buf.now }
+    ensures bound { result ≤ length buf.now }
+    ensures value { (k : ℕ) → bytes ≡ pos k → result ≡ min k (length buf.now) }
+    ensures negative { bytes <ℤ pos 0 → result ≡ 0 }
 {
     usize::try_from(bytes).unwrap_or(0).min(buf.len())
 }
