@@ -1,6 +1,6 @@
+use native.Mathlib.Omega.{arith}
 use Rattle.records.proofs.Judged.{kinds}
 use Rattle.records.proofs.inner.step.Goals as goal
-use Rattle.records.proofs.inner.step.Goals.{in-83-1, in_default-1}
 
 pub returns-then-book-place : goal.returns-then-book-place
 returns-then-book-place c = search kinds
@@ -21,4 +21,4 @@ pub returns-in-69 : goal.returns-in-69
 returns-in-69 c = search kinds
 
 pub returns-in-0-to-68 : goal.returns-in-0-to-68
-returns-in-0-to-68 c = elim c.in-0-to-68-1.branch [ in-83-1 w ↦ search kinds | in_default-1 w ↦ search kinds ]
+returns-in-0-to-68 c = grind (arith, kinds)
