@@ -2,8 +2,8 @@
    suspects when a card fails.
 
    The functions are proved, for every input, to answer as is said here. Link
-   target/staticlib/libtockbronze.a, which `rt staticlib tockbronze` makes
-   (x86-64); examples/c/build does both.
+   target/staticlib/libtockbronze.a, which examples/c/build proves and makes
+   (x86-64).
 
    A slice is passed as a pointer and its length in bytes. The pointer may be
    null where the length is 0. Lent memory must not overlap, and each slice must
