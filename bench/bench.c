@@ -1,11 +1,13 @@
 /* bench BOOK..: medians of repeated runs, the archive beside the independent
-   implementation of tests/c. The books are those for the choices. */
+   implementation of tests/c, and for the choices beside the quick search. The
+   books are those for the choices. */
 #define _POSIX_C_SOURCE 199309L
 #include <stdio.h>
 #include <stdlib.h>
 #include <string.h>
 #include <time.h>
 
+#include "quick.h"
 #include "reference.h"
 #include "tockbronze.h"
 
@@ -66,6 +68,16 @@ static uint64_t their_diagnose(void)
     return (uint64_t)set.tests << 8 | (uint64_t)set.number;
 }
 
+static uint64_t quick_detect(void)
+{
+    return (uint64_t)quick_choose(&table, REF_DETECT) << 8;
+}
+
+static uint64_t quick_diagnose(void)
+{
+    return (uint64_t)quick_choose(&table, REF_DIAGNOSE) << 8;
+}
+
 static uint64_t our_dictionary(void)
 {
     return tockbronze_dictionary(bytes, sizeof bytes, every_test, buffer, sizeof buffer);
@@ -98,10 +110,10 @@ static double seconds_of(measured call, size_t times)
     volatile uint64_t result;
     size_t i;
 
-    clock_gettime(CLOCK_MONOTONIC, &from);
+    clock_gettime(CLOCK_PROCESS_CPUTIME_ID, &from);
     for (i = 0; i < times; i++)
         result = call();
-    clock_gettime(CLOCK_MONOTONIC, &to);
+    clock_gettime(CLOCK_PROCESS_CPUTIME_ID, &to);
     (void)result;
     return (double)(to.tv_sec - from.tv_sec) + 1e-9 * (double)(to.tv_nsec - from.tv_nsec);
 }
@@ -112,35 +124,58 @@ static int by_size(const void *a, const void *b)
     return (x > y) - (x < y);
 }
 
-/* Microseconds of one call: the median of runs of some 5 milliseconds each. */
-static double median(measured call)
+/* How many calls take some 5 milliseconds. */
+static size_t times_of(measured call)
 {
-    double run[RUNS];
-    size_t times = 1, i;
+    size_t times = 1;
 
     while (times < 1000000 && seconds_of(call, times) < 0.005)
         times *= 2;
-    for (i = 0; i < RUNS; i++)
-        run[i] = 1e6 * seconds_of(call, times) / (double)times;
-    qsort(run, RUNS, sizeof run[0], by_size);
-    return run[RUNS / 2];
+    return times;
 }
 
-static void line(const char *what, const char *name, measured ours, measured theirs, bool written)
+/* Microseconds of one call of each, the medians of runs that take turns: what
+   else the machine does then hits all alike. */
+static void medians(const measured *calls, size_t n, double *result)
 {
-    double us, them;
+    double run[3][RUNS];
+    size_t times[3], i, k;
+
+    for (k = 0; k < n; k++)
+        times[k] = times_of(calls[k]);
+    for (i = 0; i < RUNS; i++)
+        for (k = 0; k < n; k++)
+            run[k][i] = 1e6 * seconds_of(calls[k], times[k]) / (double)times[k];
+    for (k = 0; k < n; k++) {
+        qsort(run[k], RUNS, sizeof run[k][0], by_size);
+        result[k] = run[k][RUNS / 2];
+    }
+}
+
+/* `quick` is null where there is no third side. */
+static void line(const char *what, const char *name, measured ours, measured theirs, measured quick, bool written)
+{
+    measured calls[3];
+    double us[3];
     uint64_t result;
 
+    calls[0] = ours;
+    calls[1] = theirs;
+    calls[2] = quick;
     memset(buffer, 0, sizeof buffer);
     memset(other, 0, sizeof other);
-    result = ours();
-    if (result != theirs() || (written && memcmp(buffer, other, sizeof buffer) != 0)) {
-        fprintf(stderr, "bench: %s, %s: the two answers differ\n", what, name);
+    result = theirs();
+    if (ours() != result || (written && memcmp(buffer, other, sizeof buffer) != 0)
+        || (quick != NULL && quick() != result)) {
+        fprintf(stderr, "bench: %s, %s: the answers differ\n", what, name);
         exit(1);
     }
-    us = median(ours);
-    them = median(theirs);
-    printf("| %s | %s | %.2f | %.2f | %.2g |\n", what, name, us, them, us / them);
+    medians(calls, quick == NULL ? 2 : 3, us);
+    printf("| %s | %s | %.2f | %.2f | %.2g |", what, name, us[0], us[1], us[0] / us[1]);
+    if (quick == NULL)
+        printf(" | |\n");
+    else
+        printf(" %.2f | %.2g |\n", us[2], us[0] / us[2]);
     fflush(stdout);
 }
 
@@ -204,17 +239,17 @@ int main(int argc, char **argv)
 {
     int i;
 
-    printf("| What | Book | Tockbronze, microseconds | C, microseconds | Ratio |\n|---|---|---|---|---|\n");
+    printf("| What | Book | Tockbronze, microseconds | C, microseconds | Ratio | Quick C, microseconds | Ratio |\n|---|---|---|---|---|---|---|\n");
     longest_book();
     take_book("the longest book");
-    line("reading", "the longest book", our_read, their_read, false);
+    line("reading", "the longest book", our_read, their_read, NULL, false);
     for (i = 1; i < argc; i++) {
         const char *name = load_book(argv[i]);
-        line("classes", name, our_classes, their_classes, true);
-        line("choice, detect", name, our_detect, their_detect, false);
-        line("choice, diagnose", name, our_diagnose, their_diagnose, false);
-        line("dictionary, all tests", name, our_dictionary, their_dictionary, true);
-        line("report", name, our_report, their_report, true);
+        line("classes", name, our_classes, their_classes, NULL, true);
+        line("choice, detect", name, our_detect, their_detect, quick_detect, false);
+        line("choice, diagnose", name, our_diagnose, their_diagnose, quick_diagnose, false);
+        line("dictionary, all tests", name, our_dictionary, their_dictionary, NULL, true);
+        line("report", name, our_report, their_report, NULL, true);
     }
     return 0;
 }
