@@ -28,6 +28,7 @@ pub fn refuse(why: Refusal, at: usize) -> Stepped
 }
 
 // The step, for a reading so far whose counts are within the sizes.
+#[tactic(auto, using(crate::proofs::Judged::kinds))]
 pub fn step(book: &[u8], place: usize, sofar: SoFar) -> Stepped
     requires { CountsFit sofar }
     ensures { result ≡ step_at book.now place sofar }

@@ -30,6 +30,7 @@ fn fresh<'a>(lines: &'a [u8; 60], stuck: &'a [u8; 60], f: usize) -> bool
 }
 
 // Whether the label f is a new fault's, with a stuck value of 0 or 1; or zero, where f is no fault.
+#[tactic(auto, unfolding(crate::specs::Test::label_right))]
 fn label_right<'a>(lines: &'a [u8; 60], stuck: &'a [u8; 60], faults: usize, f: usize) -> bool
     requires { f < 60 }
     ensures { result ≡ label_right lines.now stuck.now faults f }
@@ -60,6 +61,7 @@ pub fn labels_right<'a>(lines: &'a [u8; 60], stuck: &'a [u8; 60], faults: usize)
 }
 
 // Whether the cell of test t in column c is used, or zero.
+#[tactic(auto, unfolding(crate::specs::Test::cell_right))]
 fn cell_right(cells: &[u8; 1464], tests: usize, faults: usize, t: usize, c: usize) -> bool
     requires { (t < 24) × (c < 61) }
     ensures { result ≡ cell_right cells.now tests faults t c }
