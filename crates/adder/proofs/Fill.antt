@@ -1,5 +1,5 @@
 -- The facts of the loops that fill the table. Assumes nothing.
-use mathlib.Core.Bool.{Bool, true}
+use mathlib.Core.Bool.{Bool, true, false}
 use mathlib.Core.List.{List}
 use mathlib.Core.Path.{◌≡◌, refl, ap, ◌∙◌}
 use Prim.Native.Nat.{ℕ, ◌+◌, ◌≤◌, ◌<◌}
@@ -9,7 +9,8 @@ use native.Mathlib.Omega.{arith}
 use borrow.Author.Tests.{ltb-true}
 use lib.Dec.{ltb}
 use lib.ListN.{get_or, length, replicate, set}
-use Rattle.folds.specs.Fold.{both, every, always, listed, onto}
+use mir.Val.{bool_byte}
+use Rattle.folds.specs.Fold.{both, every, always, listed, onto, pick}
 use Rattle.folds.proofs.Bools.{both_left, both_right}
 use Rattle.folds.proofs.Every.{every_at}
 use Rattle.folds.proofs.Gather.{gather_end, listed_start, listed_store}
@@ -49,10 +50,6 @@ pub answers_start : (s : List ℕ) → s ≡ rows_filled correct_output 8 → s 
 unfolding answered
 answers_start s e = e
 
-pub answers_store : (i at : ℕ) (a : Answer) (s : List ℕ) → s ≡ answered i → a ≡ get_or differing i nothing → at ≡ place_of a.0 (a.1 + 1) → set s at a.2 ≡ answered (i + 1)
-unfolding answered
-answers_store i at a s e ea ep = rw (add-one, e, ep, ea)
-
 pub answers_end : (i n : ℕ) (s : List ℕ) → i ≤ n → n ≤ i → s ≡ answered i → s ≡ answered n
 answers_end i n s h k e = e ∙ ap answered (le_antisymm h k)
 
@@ -64,14 +61,19 @@ all_small : every small 36 ≡ true
 unfolding every small differing answers_below answers_of adder_output nothing
 all_small = refl
 
-module _ (i : ℕ) (a : Answer) (e : a ≡ get_or differing i nothing) (l : i < 36) where
-  pub answer_test : a.0 < 8
+-- item i of the built-in answers
+module _ (items : List Answer) (e : items ≡ differing) (i : ℕ) where
+  pub answer_test : (t : ℕ) → t ≡ (get_or items i nothing).0 → i < 36 → t < 8
   unfolding small
-  answer_test = rw e (ltb-true _ _ (both_left _ _ (every_at small 36 i all_small l)))
+  answer_test t et l = rw (et, e) (ltb-true _ _ (both_left _ _ (every_at small 36 i all_small l)))
 
-  pub answer_fault : a.1 < 10
+  pub answer_fault : (f : ℕ) → f ≡ (get_or items i nothing).1 → i < 36 → f < 10
   unfolding small
-  answer_fault = rw e (ltb-true _ _ (both_right (ltb (get_or differing i nothing).0 8) _ (every_at small 36 i all_small l)))
+  answer_fault f ef l = rw (ef, e) (ltb-true _ _ (both_right (ltb (get_or differing i nothing).0 8) _ (every_at small 36 i all_small l)))
+
+  pub answers_store : (t f at : ℕ) (s : List ℕ) → t ≡ (get_or items i nothing).0 → f ≡ (get_or items i nothing).1 → at ≡ place_of t (f + 1) → s ≡ answered i → set s at (get_or items i nothing).2 ≡ answered (i + 1)
+  unfolding answered
+  answers_store t f at s et ef ea es = rw (add-one, es, ea, et, ef, e)
 
 -- the 36 answers over the correct outputs give every cell of the gates: computed over the whole table
 pub gates_right : answered 36 ≡ rows_filled adder_output 8
@@ -91,6 +93,14 @@ module _ (g : ℕ → ℕ) where
 
   pub labels_store : (f v : ℕ) (s : List ℕ) → s ≡ onto (listed g f) no_labels → f < 10 → v ≡ g f → set s f v ≡ onto (listed g (f + 1)) no_labels
   labels_store f v s e l ev = rw e (listed_store g f no_labels v (omega (arith, labels_long)) ev)
+
+pub stuck_byte : (f : ℕ) → bool_byte (ltb f 5) ≡ stuck_label f
+unfolding stuck_label
+stuck_byte f = as_byte (ltb f 5)
+  where
+    as_byte : (b : Bool) → bool_byte b ≡ pick b 1 0
+    as_byte true = refl
+    as_byte false = refl
 
 pub table_right : (cells lines stuck : List ℕ) (f : ℕ) → cells ≡ answered 36 → f ≤ 10 → 10 ≤ f → lines ≡ onto (listed line_label f) no_labels → stuck ≡ onto (listed stuck_label f) no_labels
     → record { tests = 8; faults = 10; cells = cells; lines = lines; stuck = stuck } ≡ adder_table

@@ -8,7 +8,7 @@ use lib.Dec.{eqb}
 use Rattle.adder.specs.Adder.{adder_output, adder_table, line_label, no_labels, row_filled, rows_filled, stuck_label}
 use Rattle.folds.specs.Fold.{always, every, joined, onto, single}
 use Rattle.folds.proofs.Every.{every_at}
-use Rattle.table.proofs.Formed.{formed}
+use Rattle.table.proofs.Tested.{formed}
 use Rattle.table.specs.Table.{cell_at, output_at, place_of}
 use Rattle.table.specs.Test.{cell_right, differ, fresh, label_right, row_right, well_formed}
 use Rattle.table.specs.WellFormed.{WellFormed}

@@ -1,8 +1,8 @@
 // The full adder of document 004, Figure 1: its responses, built in, and its table.
 #![tactic(auto)]
 
-ghost use Rattle.std.specs.Prelude.{◌≡◌, ◌<◌, get_or};
-ghost use Rattle.adder.specs.Adder.{adder_output, adder_table, answered, correct_output, differing, line_label, nothing, row_filled, rows_filled, same, stuck_label};
+ghost use Rattle.std.specs.Prelude.{◌≡◌, ◌<◌};
+ghost use Rattle.adder.specs.Adder.{adder_table, answered, correct_output, differing, row_filled, rows_filled, same};
 
 use table::Table;
 
@@ -52,46 +52,14 @@ const ANSWERS: [Answer; 36] = [
     Answer(7, 9, 2),
 ];
 
-fn correct(t: usize) -> u8
-    requires { t < 8 }
-    ensures { result ≡ adder_output t 0 }
-{
-    CORRECT[t]
-}
-
-fn nth_answer(i: usize) -> Answer
-    requires { i < 36 }
-    ensures { result ≡ get_or differing i nothing }
-{
-    ANSWERS[i]
-}
-
-fn line_label(f: usize) -> u8
-    requires { f < 10 }
-    ensures { result ≡ line_label f }
-{
-    (f % 5 + 1) as u8
-}
-
-fn stuck_label(f: usize) -> u8
-    ensures { result ≡ stuck_label f }
-{
-    if f < 5 { 1 } else { 0 }
-}
-
-// The cells with one output in every column of test t.
-fn row(cells: [u8; 1464], t: usize, output: u8) -> [u8; 1464]
+// One output in every column of test t.
+fn fill_row(cells: &mut [u8; 1464], t: usize, output: u8)
     requires { t < 24 }
-    ensures { result ≡ row_filled (same output) t 11 cells }
+    ensures { cells.new ≡ row_filled (same output) t 11 cells.old }
 {
-    let mut next = cells;
-    let mut c = 0;
-    while c < 11 {
-        let at = table::inner::place(t, c);
-        next[at] = output;
-        c += 1;
+    for c in 0..11 {
+        cells[table::inner::place(t, c)] = output;
     }
-    next
 }
 
 // The correct outputs in every column.
@@ -99,14 +67,17 @@ fn correct_cells() -> [u8; 1464]
     ensures { result ≡ rows_filled correct_output 8 }
 {
     let mut cells = [0; 1464];
-    let mut t = 0;
-    while t < 8 {
-        let output = correct(t);
-        let next = row(cells, t, output);
-        cells = next;
-        t += 1;
+    for t in 0..8 {
+        fill_row(&mut cells, t, CORRECT[t]);
     }
     cells
+}
+
+// The answers are exactly those that differ.
+fn answers() -> [Answer; 36]
+    ensures { result ≡ differing }
+{
+    ANSWERS
 }
 
 // The correct outputs with the 36 answers over them.
@@ -114,12 +85,8 @@ fn adder_cells() -> [u8; 1464]
     ensures { result ≡ answered 36 }
 {
     let mut cells = correct_cells();
-    let mut i = 0;
-    while i < 36 {
-        let a = nth_answer(i);
-        let at = table::inner::place(a.0 as usize, a.1 as usize + 1);
-        cells[at] = a.2;
-        i += 1;
+    for Answer(t, f, output) in answers() {
+        cells[table::inner::place(usize::from(t), usize::from(f) + 1)] = output;
     }
     cells
 }
@@ -129,17 +96,14 @@ pub fn full_adder() -> Table
 {
     let mut lines = [0; 60];
     let mut stuck = [0; 60];
-    let mut f = 0;
-    while f < 10 {
-        lines[f] = line_label(f);
-        stuck[f] = stuck_label(f);
-        f += 1;
+    for f in 0..10 {
+        lines[f] = (f % 5 + 1) as u8;
+        stuck[f] = u8::from(f < 5);
     }
-    let cells = adder_cells();
     Table {
         tests: 8,
         faults: 10,
-        cells,
+        cells: adder_cells(),
         lines,
         stuck,
     }

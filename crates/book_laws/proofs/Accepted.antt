@@ -6,10 +6,10 @@ use native.Mathlib.Omega.{arith}
 use borrow.Author.Tests.{le-leb, le-ltb}
 use lib.ListN.{length, length-drop}
 use lib.Seq.{take_all}
+use Rattle.std.specs.Prelude.{Ok}
 use Rattle.table.specs.WellFormed.{WellFormed, OfType}
 use Rattle.table.specs.declared.Reading.{Reading}
 use Rattle.table.specs.declared.Table.{Table}
-use Rattle.table.specs.declared.Verdict.TheVariants.{Accepted}
 use Rattle.book.specs.BookOf.{book_of}
 use Rattle.book.specs.Given.{Bytes, Reached}
 use Rattle.book.specs.Reading.{read_book}
@@ -34,11 +34,10 @@ pub record Gave (book : List ℕ) (tb : Table) : Type 0 where
 pub accepted_gave : (book : List ℕ) (tb : Table) → Accepts book tb → Gave book tb
 accepted_gave book tb h = go (ends book) h
   where
-    go : {r : Reading} → Ends book r → r ≡ record { verdict = Accepted; place = length book; table = tb } → Gave book tb
+    go : {r : Reading} → Ends book r → r ≡ record { verdict = Ok tt; place = length book; table = tb } → Gave book tb
     go (refused x why e) q =
         let v = ap (λ (r : Reading). r.verdict) q in
-        let z : ◌≡◌ {A = ℕ} 0 1 = cc in
-        absurd (omega arith)
+        cc
     go (accepted {place} {sofar} x l u e) q =
         let g = reached_good x in
         let same : sofar.table ≡ tb = ap (λ (r : Reading). r.table) q in
@@ -49,11 +48,11 @@ accepted_gave book tb h = go (ends book) h
         }
 
 -- an accepted verdict comes with the book's length
-pub accepts_whole : (book : List ℕ) → (read_book book).verdict ≡ Accepted → Accepts book (read_book book).table
+pub accepts_whole : (book : List ℕ) → (read_book book).verdict ≡ Ok tt → Accepts book (read_book book).table
 accepts_whole book h = go (ends book) h
   where
-    go : {r : Reading} → Ends book r → r.verdict ≡ Accepted → r ≡ record { verdict = Accepted; place = length book; table = r.table }
-    go (refused x why e) q = let z : ◌≡◌ {A = ℕ} 0 1 = cc in absurd (omega arith)
+    go : {r : Reading} → Ends book r → r.verdict ≡ Ok tt → r ≡ record { verdict = Ok tt; place = length book; table = r.table }
+    go (refused x why e) q = cc
     go (accepted {place} {sofar} x l u e) q =
         let p : place ≡ length book = omega (arith, (reached_good x).inside) in
         rw p refl

@@ -3,10 +3,10 @@ use mathlib.Core.List.{List}
 use mathlib.Core.Path.{◌≡◌, sym, ap, ◌∙◌}
 use Prim.Native.Nat.{ℕ, ◌≤◌}
 use lib.ListN.{length}
+use Rattle.std.specs.Prelude.{Ok}
 use Rattle.table.specs.WellFormed.{WellFormed, OfType}
 use Rattle.table.specs.declared.Reading.{Reading}
 use Rattle.table.specs.declared.Table.{Table}
-use Rattle.table.specs.declared.Verdict.TheVariants.{Accepted}
 use Rattle.book.specs.BookOf.{book_of}
 use Rattle.book.specs.Given.{Bytes}
 use Rattle.book.specs.Reading.{read_book}
@@ -27,7 +27,7 @@ pub book_accepts : (book : List ℕ) (tb : Table) → BookOfTable book tb → Ac
 book_accepts book tb h = rw h.is (book_accepted tb h.formed (long_of h.typed))
 
 -- a verdict of acceptance comes with the book's own table and length
-pub accepted_book : (book : List ℕ) → Bytes book → (read_book book).verdict ≡ Accepted → BookOfTable book (read_book book).table
+pub accepted_book : (book : List ℕ) → Bytes book → (read_book book).verdict ≡ Ok tt → BookOfTable book (read_book book).table
 accepted_book book b h = accepts_book book _ b (accepts_whole book h)
 
 -- every well-formed table has one, and it is made of bytes
@@ -40,7 +40,7 @@ one_table a b oa wa ob wb e =
     ap (λ (r : Reading). r.table) (sym (book_accepted a wa (long_of oa)) ∙ ap read_book e ∙ book_accepted b wb (long_of ob))
 
 -- "The longest book has 5,991 bytes": no accepted book is longer
-pub accepted_most : (book : List ℕ) → (read_book book).verdict ≡ Accepted → length book ≤ 5991
+pub accepted_most : (book : List ℕ) → (read_book book).verdict ≡ Ok tt → length book ≤ 5991
 accepted_most book h =
     let g = accepted_gave book _ (accepts_whole book h) in
     rw g.is_book (book_most _ g.formed)

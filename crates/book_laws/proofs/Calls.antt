@@ -8,6 +8,7 @@ use native.Mathlib.Omega.{arith}
 use borrow.Author.Tests.{lt-ltb, le-ltb, ltb-true, not-true}
 use lib.Dec.{ltb}
 use lib.ListN.{length}
+use Rattle.std.specs.Prelude.{Ok, Err, Some}
 use Rattle.folds.specs.Fold.{pick}
 use Rattle.folds.proofs.Bools.{clash}
 use Rattle.table.specs.WellFormed.{OfType}
@@ -16,7 +17,6 @@ use Rattle.book.specs.Given.{Reached, begun, read, SomeStart}
 use Rattle.book.specs.Reading.{after, read_from, read_book}
 use Rattle.book.specs.Sound.{sound_test, call_rule, record_at}
 use Rattle.records.specs.Step.{start, refused_at, first_of, step_at}
-use Rattle.records.specs.declared.Outcome.TheVariants.{Given, Refused}
 use Rattle.records.specs.declared.Record.{Record}
 use Rattle.records.specs.declared.SoFar.{SoFar}
 use Rattle.records.specs.declared.Stepped.{Stepped}
@@ -46,7 +46,7 @@ module _ (book : List ℕ) (place : ℕ) (sofar : SoFar) where
       go true h (inl none) = absurd (none (sound_start sofar o h))
       go true h (inr l) = inr (rw h, inl (lt-ltb (length book) place l, refl))
 
-  pub given_twenty : (record_at book place sofar).outcome ≡ Refused NotWellFormed → (SomeStart sofar → ⊥) ⊎ (length book < place)
+  pub given_twenty : (record_at book place sofar).outcome ≡ Err NotWellFormed → (SomeStart sofar → ⊥) ⊎ (length book < place)
   unfolding call_rule
   given_twenty e = go (refuses_call book place sofar NotWellFormed e)
     where
@@ -57,15 +57,15 @@ module _ (book : List ℕ) (place : ℕ) (sofar : SoFar) where
 
   -- ---- the records that it gives are the book's
 
-  pub call_record : (r : Record) → (record_at book place sofar).outcome ≡ Given r → BytesAt book place r (record_at book place sofar).place
+  pub call_record : (r : Record) → (record_at book place sofar).outcome ≡ Ok (Some r) → BytesAt book place r (record_at book place sofar).place
   unfolding record_at call_rule step_at first_of
   call_record r e = go (sound_test sofar) (ltb (length book) place) e (record_there book place sofar r)
     where
-      go : (a b : Bool) → (pick (not a) (refused_at NotWellFormed place) (pick b (refused_at NotWellFormed place) (step_at book place sofar))).outcome ≡ Given r
-          → ((step_at book place sofar).outcome ≡ Given r → BytesAt book place r (step_at book place sofar).place)
+      go : (a b : Bool) → (pick (not a) (refused_at NotWellFormed place) (pick b (refused_at NotWellFormed place) (step_at book place sofar))).outcome ≡ Ok (Some r)
+          → ((step_at book place sofar).outcome ≡ Ok (Some r) → BytesAt book place r (step_at book place sofar).place)
           → BytesAt book place r (pick (not a) (refused_at NotWellFormed place) (pick b (refused_at NotWellFormed place) (step_at book place sofar))).place
-      go false b e k = let z : ◌≡◌ {A = ℕ} 0 1 = cc in absurd (omega arith)
-      go true true e k = let z : ◌≡◌ {A = ℕ} 0 1 = cc in absurd (omega arith)
+      go false b e k = cc
+      go true true e k = cc
       go true false e k = k e
 
 -- ---- "from the book's start the answers are the same"

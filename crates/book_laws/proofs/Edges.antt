@@ -8,9 +8,9 @@ use native.Mathlib.Omega.{arith}
 use borrow.Author.Tests.{ltb-true, not-true, not-false}
 use lib.Dec.{eqb}
 use lib.ListN.{length}
+use Rattle.std.specs.Prelude.{Err}
 use Rattle.folds.proofs.Bools.{clash}
 use Rattle.table.specs.declared.Refusal.TheVariants.{NoEnd, BytesFollow}
-use Rattle.table.specs.declared.Verdict.TheVariants.{Refused}
 use Rattle.book.specs.Reading.{read_book}
 use Rattle.records.specs.Step.{rank_of, edge_rule}
 use Rattle.records.specs.declared.SoFar.{SoFar}
@@ -24,27 +24,27 @@ module _ (book : List ℕ) (place : ℕ) (sofar : SoFar) where
   unfolding edge_rule
   over (inl (inl l, r)) = l
   over (inl (inr u, inl (h, q))) = clash (eqb (rank_of sofar.stage) 3) u (not-true (eqb (rank_of sofar.stage) 3) h)
-  over (inl (inr u, inr (h, inl (l, q)))) = let z : ◌≡◌ {A = ℕ} 0 1 = cc in absurd (omega arith)
+  over (inl (inr u, inr (h, inl (l, q)))) = cc
   over (inl (inr u, inr (h, inr r))) = absurd r.1
   over (inr n) = clash false n refl
 
   -- 12 past the end record
   past : EdgeOr book place sofar BytesFollow → (eqb (rank_of sofar.stage) 3 ≡ true) × (place < length book)
   unfolding edge_rule
-  past (inl (u, inl (h, q))) = let z : ◌≡◌ {A = ℕ} 0 1 = cc in absurd (omega arith)
+  past (inl (u, inl (h, q))) = cc
   past (inl (u, inr (h, inl (l, q)))) = (not-false (eqb (rank_of sofar.stage) 3) h, ltb-true place (length book) l)
   past (inl (u, inr (h, inr r))) = absurd r.1
   past (inr n) = clash false n refl
 
 -- "For 3 the place is the book's length"
-pub no_end_place : (book : List ℕ) → (read_book book).verdict ≡ Refused NoEnd → (read_book book).place ≡ length book
+pub no_end_place : (book : List ℕ) → (read_book book).verdict ≡ Err NoEnd → (read_book book).place ≡ length book
 no_end_place book h = go (reading_stops book NoEnd h)
   where
     go : {place : ℕ} → StopsAt book NoEnd place → place ≡ length book
     go {place} s = omega (arith, over book place s.sofar (edge_or book place s.sofar NoEnd s.refuses), (reached_good s.reached).inside)
 
 -- "for 12 it is that of the byte after the end record"
-pub bytes_follow_place : (book : List ℕ) → (read_book book).verdict ≡ Refused BytesFollow → AfterEnd book (read_book book).place
+pub bytes_follow_place : (book : List ℕ) → (read_book book).verdict ≡ Err BytesFollow → AfterEnd book (read_book book).place
 bytes_follow_place book h = go (reading_stops book BytesFollow h)
   where
     go : {place : ℕ} → StopsAt book BytesFollow place → AfterEnd book place

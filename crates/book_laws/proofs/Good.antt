@@ -9,6 +9,7 @@ use native.Mathlib.Omega.{arith}
 use borrow.Author.Tests.{ltb-false, leb-false, eqb-true, eqb-false, not-false}
 use lib.Dec.{eqb}
 use lib.ListN.{length, get_or, take, length-take, length-append}
+use Rattle.std.specs.Prelude.{Ok, Some}
 use Rattle.folds.specs.Fold.{always}
 use Rattle.folds.proofs.Below.{below_cases}
 use Rattle.folds.proofs.Joined.{joined_none}
@@ -22,7 +23,6 @@ use Rattle.book.specs.Given.{Bytes, Reached, begun, read}
 use Rattle.grow.specs.Grow.{with_fault, with_response}
 use Rattle.book.specs.Sound.{order_of}
 use Rattle.records.specs.Step.{start, record_bytes, rank_of, test_rule, fault_rule, response_rule, end_rule}
-use Rattle.records.specs.declared.Outcome.TheVariants.{Given}
 use Rattle.records.specs.declared.Record.{Record}
 use Rattle.records.specs.declared.SoFar.{SoFar}
 use Rattle.records.specs.declared.Stage.{Stage}
@@ -187,9 +187,9 @@ any_place {book} {place} {sofar} g = go sofar.stage g.taken
     go Ended e = omega (arith, ap length e, length-take place book, book_most sofar.table g.formed, g.inside)
 
 -- every start of a book
-kept : {book : List ℕ} {place : ℕ} {sofar : SoFar} {s : Stepped} → Good book place sofar → Steps book place sofar s → (r : Record) → s.outcome ≡ Given r → Good book s.place s.sofar
-kept g (refuses why) r e = let z : ◌≡◌ {A = ℕ} 0 1 = cc in absurd (omega arith)
-kept g (accepts h u) r e = let z : ◌≡◌ {A = ℕ} 0 1 = cc in absurd (omega arith)
+kept : {book : List ℕ} {place : ℕ} {sofar : SoFar} {s : Stepped} → Good book place sofar → Steps book place sofar s → (r : Record) → s.outcome ≡ Ok (Some r) → Good book s.place s.sofar
+kept g (refuses why) r e = cc
+kept g (accepts h u) r e = cc
 kept g (gives h u k) r e = good_step g u k
 
 pub reached_good : {book : List ℕ} {place : ℕ} {sofar : SoFar} → Reached book place sofar → Good book place sofar

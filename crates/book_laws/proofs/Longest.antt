@@ -8,6 +8,7 @@ use native.Mathlib.Omega.{arith}
 use lib.Dec.{lit≤}
 use lib.ListN.{length, take, replicate, length-append, length-replicate}
 use lib.Seq.{take-append-le}
+use Rattle.std.specs.Prelude.{Ok}
 use Rattle.folds.specs.Fold.{listed, always}
 use Rattle.folds.proofs.All.{all_of, all_read, all_append, gather_all}
 use Rattle.folds.proofs.Gather.{listed_length, listed_get, always_true}
@@ -16,7 +17,6 @@ use Rattle.table.specs.Table.{output_at, line_of}
 use Rattle.table.specs.WellFormed.{WellFormed, OfType}
 use Rattle.table.specs.declared.Reading.{Reading}
 use Rattle.table.specs.declared.Table.{Table}
-use Rattle.table.specs.declared.Verdict.TheVariants.{Accepted}
 use Rattle.table.proofs.Stored.{cells_of}
 use Rattle.table.proofs.Empty.{zero_label}
 use Rattle.book.specs.BookOf.{test_bytes, fault_bytes, response_bytes, answers_wrong, responses_of, book_of}
@@ -97,7 +97,7 @@ full_accepted = book_accepts (book_of full) full (record { typed = full_typed; f
 -- ---- the theorems
 
 -- "The longest book has 5,991 bytes"
-pub longest : (book : List ℕ) × Bytes book × (length book ≡ 5991) × ((read_book book).verdict ≡ Accepted)
+pub longest : (book : List ℕ) × Bytes book × (length book ≡ 5991) × ((read_book book).verdict ≡ Ok tt)
 longest = (book_of full, book_bytes full full_formed full_typed, full_length, ap (λ (r : Reading). r.verdict) full_accepted)
 
 -- two inputs that agree on their first 5,991 bytes, and have two readings

@@ -9,6 +9,7 @@ use native.Mathlib.Omega.{arith}
 use borrow.Author.Tests.{leb-true, eqb-true}
 use lib.Dec.{eqb, leb}
 use lib.ListN.{length, get_or}
+use Rattle.std.specs.Prelude.{Ok, Err, Some}
 use Rattle.folds.specs.Fold.{pick, both, either}
 use Rattle.folds.proofs.Bools.{clash, both_left, both_right, either_cases}
 use Rattle.table.specs.Answers.{number_of}
@@ -18,14 +19,12 @@ use Rattle.book.specs.Reading.{read_book}
 use Rattle.book.specs.Sound.{call_rule, record_at}
 use Rattle.table.specs.Table.{empty_table}
 use Rattle.records.specs.Step.{Check, Rule, rank_of, refused_at, first_of, test_rule, fault_rule, response_rule, end_rule, unknown_rule, edge_rule, kind_rule, rule_at, step_at}
-use Rattle.records.specs.declared.Outcome.TheVariants.{Given, Refused}
 use Rattle.records.specs.declared.Record.{Record}
 use Rattle.records.specs.declared.SoFar.{SoFar}
 use Rattle.records.specs.declared.Stepped.{Stepped}
 use Rattle.records.proofs.Steps.{AllPast, way}
 use Rattle.book_laws.specs.Refuses.{Refuses, StopsAt}
 use Rattle.book_laws.proofs.Readings.{Ends, refused, accepted, ends, refused_reading}
-use Rattle.table.specs.declared.Verdict.TheVariants as verdict
 
 -- ---- one lemma over a list of checks
 
@@ -38,13 +37,13 @@ module _ (place : ℕ) (gives : Stepped) (why : Refusal) where
   refuses_gives (k ∷ ks) (inr (h, r)) = rw h (refuses_gives ks r)
 
   -- and where the step is the refusal, the condition holds, if it is not what follows the checks
-  pub gives_refuses : (ks : List Check) → (AllPast ks → gives.outcome ≡ Refused why → ⊥) → (first_of ks place gives).outcome ≡ Refused why → Refuses why ks
+  pub gives_refuses : (ks : List Check) → (AllPast ks → gives.outcome ≡ Err why → ⊥) → (first_of ks place gives).outcome ≡ Err why → Refuses why ks
   unfolding first_of
   gives_refuses [] n e = n tt e
   gives_refuses (k ∷ ks) n e = go k.holds refl e (gives_refuses ks)
     where
-      go : (b : Bool) → k.holds ≡ b → (pick b (refused_at k.why place) (first_of ks place gives)).outcome ≡ Refused why
-          → ((AllPast ks → gives.outcome ≡ Refused why → ⊥) → (first_of ks place gives).outcome ≡ Refused why → Refuses why ks) → Refuses why (k ∷ ks)
+      go : (b : Bool) → k.holds ≡ b → (pick b (refused_at k.why place) (first_of ks place gives)).outcome ≡ Err why
+          → ((AllPast ks → gives.outcome ≡ Err why → ⊥) → (first_of ks place gives).outcome ≡ Err why → Refuses why ks) → Refuses why (k ∷ ks)
       go true h e ih = inl (h, cc)
       go false h e ih = inr (h, ih (λ past q. n (h, past) q) e)
 
@@ -70,10 +69,10 @@ of_edge n = either (eqb n 3) (eqb n 12)
 -- a rule has such numbers, and no refusal follows its checks that none of them gives
 record Right (p : ℕ → Bool) (r : Rule) : Type 0 where
   numbered : all_of p r.checks ≡ true
-  follows : (why : Refusal) → AllPast r.checks → r.gives.outcome ≡ Refused why → ⊥
+  follows : (why : Refusal) → AllPast r.checks → r.gives.outcome ≡ Err why → ⊥
 
-given_not : (r : Record) (why : Refusal) → Given r ≡ Refused why → ⊥
-given_not r why e = let z : ◌≡◌ {A = ℕ} 0 1 = cc in omega arith
+given_not : (r : Record) (why : Refusal) → Ok (Some r) ≡ Err why → ⊥
+given_not r why e = cc
 
 module _ (book : List ℕ) (place : ℕ) (sofar : SoFar) where
   test_right : Right of_record (test_rule book place sofar)
@@ -98,7 +97,7 @@ module _ (book : List ℕ) (place : ℕ) (sofar : SoFar) where
 
   edge_right : Right of_edge (edge_rule book place sofar)
   unfolding edge_rule
-  edge_right = record { numbered = refl; follows = λ why k q. let z : ◌≡◌ {A = ℕ} 0 1 = cc in omega arith }
+  edge_right = record { numbered = refl; follows = λ why k q. cc }
 
   kind_right : (kind : ℕ) → Right of_record (kind_rule book place sofar kind)
   unfolding kind_rule
@@ -109,10 +108,10 @@ module _ (book : List ℕ) (place : ℕ) (sofar : SoFar) where
       way (Right of_record) (eqb kind 0x45) _ _ (λ _. end_right) λ _.
       unknown_right
 
-  rule_follows : (why : Refusal) → AllPast (rule_at book place sofar).checks → (rule_at book place sofar).gives.outcome ≡ Refused why → ⊥
+  rule_follows : (why : Refusal) → AllPast (rule_at book place sofar).checks → (rule_at book place sofar).gives.outcome ≡ Err why → ⊥
   unfolding rule_at
   rule_follows why =
-      way (λ (r : Rule). AllPast r.checks → r.gives.outcome ≡ Refused why → ⊥)
+      way (λ (r : Rule). AllPast r.checks → r.gives.outcome ≡ Err why → ⊥)
       (either (leb (length book) place) (eqb (rank_of sofar.stage) 3)) _ _ (λ _. edge_right.follows why) (λ _. (kind_right (get_or book place 0)).follows why)
 
   -- ---- "Given exactly when"
@@ -121,7 +120,7 @@ module _ (book : List ℕ) (place : ℕ) (sofar : SoFar) where
   unfolding step_at
   step_refuses why r = refuses_gives place (rule_at book place sofar).gives why (rule_at book place sofar).checks r
 
-  pub refuses_step : (why : Refusal) → (step_at book place sofar).outcome ≡ Refused why → Refuses why (rule_at book place sofar).checks
+  pub refuses_step : (why : Refusal) → (step_at book place sofar).outcome ≡ Err why → Refuses why (rule_at book place sofar).checks
   unfolding step_at
   refuses_step why e = gives_refuses place (rule_at book place sofar).gives why (rule_at book place sofar).checks (rule_follows why) e
 
@@ -130,7 +129,7 @@ module _ (book : List ℕ) (place : ℕ) (sofar : SoFar) where
   unfolding record_at
   call_refuses why r = refuses_gives place (call_rule book place sofar).gives why (call_rule book place sofar).checks r
 
-  pub refuses_call : (why : Refusal) → (record_at book place sofar).outcome ≡ Refused why → Refuses why (call_rule book place sofar).checks
+  pub refuses_call : (why : Refusal) → (record_at book place sofar).outcome ≡ Err why → Refuses why (call_rule book place sofar).checks
   unfolding record_at call_rule
   refuses_call why e = gives_refuses place (call_rule book place sofar).gives why (call_rule book place sofar).checks (λ k q. rule_follows why k.1.1 q) e
 
@@ -160,14 +159,14 @@ module _ (book : List ℕ) (place : ℕ) (sofar : SoFar) where
 
 -- ---- a whole book: reading got to the place, and there the refusal is given
 
-pub reading_stops : (book : List ℕ) (why : Refusal) → (read_book book).verdict ≡ verdict.Refused why → StopsAt book why (read_book book).place
+pub reading_stops : (book : List ℕ) (why : Refusal) → (read_book book).verdict ≡ Err why → StopsAt book why (read_book book).place
 reading_stops book why h = go (ends book) h
   where
-    go : {r : Reading} → Ends book r → r.verdict ≡ verdict.Refused why → StopsAt book why r.place
+    go : {r : Reading} → Ends book r → r.verdict ≡ Err why → StopsAt book why r.place
     go (refused {place} {sofar} x w e) q =
         let same : w ≡ why = cc in
         record { sofar = sofar; reached = x; refuses = refuses_step book place sofar why (rw (e, same)) }
-    go (accepted x l u e) q = let z : ◌≡◌ {A = ℕ} 0 1 = cc in absurd (omega arith)
+    go (accepted x l u e) q = cc
 
-pub stops_reading : (book : List ℕ) (why : Refusal) (place : ℕ) → StopsAt book why place → read_book book ≡ record { verdict = verdict.Refused why; place = place; table = empty_table }
+pub stops_reading : (book : List ℕ) (why : Refusal) (place : ℕ) → StopsAt book why place → read_book book ≡ record { verdict = Err why; place = place; table = empty_table }
 stops_reading book why place r = refused_reading r.reached why (step_refuses book place r.sofar why r.refuses)

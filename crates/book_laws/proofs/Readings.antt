@@ -6,34 +6,34 @@ use Prim.Native.Nat.{ℕ, zero, suc, ◌+◌, ◌≤◌, ◌<◌}
 use native.Mathlib.Omega.{arith}
 use lib.Dec.{eqb}
 use lib.ListN.{length}
+use Rattle.std.specs.Prelude.{Some, Ok, Err}
 use Rattle.table.specs.declared.Reading.{Reading}
 use Rattle.table.specs.declared.Refusal.{Refusal}
-use Rattle.table.specs.declared.Verdict.TheVariants.{Accepted, Refused}
 use Rattle.book.specs.Given.{Reached, begun, read}
 use Rattle.book.specs.Reading.{reading_of, read_book}
 use Rattle.records.specs.Step.{start, rank_of, refused_at, accepted_at, step_at}
 use Rattle.records.specs.declared.SoFar.{SoFar}
 use Rattle.records.specs.declared.Stepped.{Stepped}
-use Rattle.book.proofs.Loop.{Reads, begins, accepts_all, refuses_all, onwards}
+use Rattle.book.proofs.Loop.{Reads, begins, turn, onwards}
 use Rattle.records.proofs.Steps.{Steps, refuses, accepts, gives, steps, goes}
 use Rattle.book_laws.proofs.Records.{record_of, given_record}
 
 -- where a book's start has led, the rest of the reading is that of the book
 reads_on : {book : List ℕ} {place : ℕ} {sofar : SoFar} → Reached book place sofar → Reads book place sofar
 reads_on {book} begun = begins book start refl
-reads_on {book} (read {place} {sofar} x r e) = onwards book place sofar (step_at book place sofar) (reads_on x) refl r e
+reads_on {book} (read {place} {sofar} x r e) = onwards book place sofar (step_at book place sofar) (reads_on x) refl (Some r) e r refl
 
 module _ {book : List ℕ} {place : ℕ} {sofar : SoFar} (x : Reached book place sofar) where
-  pub refused_reading : (why : Refusal) → step_at book place sofar ≡ refused_at why place → read_book book ≡ reading_of (Refused why) (refused_at why place)
-  refused_reading why e = sym (refuses_all book place sofar (refused_at why place) (reads_on x) (sym e) why refl)
+  pub refused_reading : (why : Refusal) → step_at book place sofar ≡ refused_at why place → read_book book ≡ reading_of (Err why) (refused_at why place)
+  refused_reading why e = sym (turn book place sofar (refused_at why place) (reads_on x) (sym e))
 
-  pub accepted_reading : step_at book place sofar ≡ accepted_at place sofar → read_book book ≡ reading_of Accepted (accepted_at place sofar)
-  accepted_reading e = sym (accepts_all book place sofar (accepted_at place sofar) (reads_on x) (sym e) refl)
+  pub accepted_reading : step_at book place sofar ≡ accepted_at place sofar → read_book book ≡ reading_of (Ok tt) (accepted_at place sofar)
+  accepted_reading e = sym (turn book place sofar (accepted_at place sofar) (reads_on x) (sym e))
 
 -- the last step of a reading
 pub data Ends (book : List ℕ) : Reading → Type 0 where
-  refused : {place : ℕ} {sofar : SoFar} → Reached book place sofar → (why : Refusal) → step_at book place sofar ≡ refused_at why place → Ends book (reading_of (Refused why) (refused_at why place))
-  accepted : {place : ℕ} {sofar : SoFar} → Reached book place sofar → length book ≤ place → eqb (rank_of sofar.stage) 3 ≡ true → step_at book place sofar ≡ accepted_at place sofar → Ends book (reading_of Accepted (accepted_at place sofar))
+  refused : {place : ℕ} {sofar : SoFar} → Reached book place sofar → (why : Refusal) → step_at book place sofar ≡ refused_at why place → Ends book (reading_of (Err why) (refused_at why place))
+  accepted : {place : ℕ} {sofar : SoFar} → Reached book place sofar → length book ≤ place → eqb (rank_of sofar.stage) 3 ≡ true → step_at book place sofar ≡ accepted_at place sofar → Ends book (reading_of (Ok tt) (accepted_at place sofar))
 
 -- the step at a place that a start of the book has led to is the last one, or leads on
 last_or_on : {book : List ℕ} {place : ℕ} {sofar : SoFar} → Reached book place sofar → {s : Stepped} → Steps book place sofar s → step_at book place sofar ≡ s

@@ -7,8 +7,8 @@ use native.Mathlib.Omega.{arith}
 use borrow.Author.Tests.{ltb-false}
 use lib.ListN.{length, get_or, take, drop}
 use lib.Seq.{drop-cons, take-add}
+use Rattle.std.specs.Prelude.{Ok, Some}
 use Rattle.records.specs.Step.{record_bytes, test_rule, fault_rule, response_rule, end_rule, step_at}
-use Rattle.records.specs.declared.Outcome.TheVariants.{Given}
 use Rattle.records.specs.declared.Record.{Record}
 use Rattle.records.specs.declared.Record.TheVariants.{Test, Fault, Response, End}
 use Rattle.records.specs.declared.SoFar.{SoFar}
@@ -57,7 +57,7 @@ given_bytes {book} {place} (ending h k) =
     let l : place + 3 ≤ length book = omega (arith, ltb-false) in
     record { bytes = at₃ book place l ∙ rw h refl; further = refl; inside = l }
 
-pub given_record : {book : List ℕ} {place : ℕ} {sofar : SoFar} {s : Stepped} (g : Gives book place sofar s) → s.outcome ≡ Given (record_of g)
+pub given_record : {book : List ℕ} {place : ℕ} {sofar : SoFar} {s : Stepped} (g : Gives book place sofar s) → s.outcome ≡ Ok (Some (record_of g))
 unfolding test_rule fault_rule response_rule end_rule
 given_record (test h k) = refl
 given_record (fault h k) = refl
@@ -69,12 +69,12 @@ pub taken_on : (book : List ℕ) (place : ℕ) (r : Record) (next : ℕ) → Byt
 taken_on book place r next b = rw b.further (take-add place (length (record_bytes r)) book ∙ ap (λ (x : List ℕ). take place book ++ x) b.bytes)
 
 -- the theorem, of a step
-pub record_there : (book : List ℕ) (place : ℕ) (sofar : SoFar) (r : Record) → (step_at book place sofar).outcome ≡ Given r → BytesAt book place r (step_at book place sofar).place
+pub record_there : (book : List ℕ) (place : ℕ) (sofar : SoFar) (r : Record) → (step_at book place sofar).outcome ≡ Ok (Some r) → BytesAt book place r (step_at book place sofar).place
 record_there book place sofar r e = go (steps book place sofar) e
   where
-    go : {s : Stepped} → Steps book place sofar s → s.outcome ≡ Given r → BytesAt book place r s.place
-    go (refuses why) e = let z : ◌≡◌ {A = ℕ} 0 1 = cc in absurd (omega arith)
-    go (accepts h u) e = let z : ◌≡◌ {A = ℕ} 0 1 = cc in absurd (omega arith)
+    go : {s : Stepped} → Steps book place sofar s → s.outcome ≡ Ok (Some r) → BytesAt book place r s.place
+    go (refuses why) e = cc
+    go (accepts h u) e = cc
     go {s} (gives h u g) e =
         let q : record_of g ≡ r = cc (given_record g) in
         rw q at (given_bytes g)

@@ -8,7 +8,7 @@ use Rattle.folds.proofs.Bools.{both_true, both_left, both_right}
 use Rattle.table.specs.Test.{well_formed}
 use Rattle.table.specs.WellFormed.{WellFormed, OfType}
 use Rattle.table.specs.declared.Table.{Table}
-use Rattle.table.proofs.Formed.{formed, tested}
+use Rattle.table.proofs.Tested.{formed, tested}
 use Rattle.book.specs.BookOf.{book_of}
 use Rattle.book.specs.Given.{Reached, SomeStart}
 use Rattle.book.specs.Sound.{sound_test}

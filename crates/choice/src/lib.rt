@@ -1,52 +1,56 @@
 // The first of the smallest sets of tests that reach a goal.
 #![tactic(auto)]
 
-ghost use Rattle.std.specs.Prelude.{◌≡◌, ◌≤◌};
+ghost use Rattle.std.specs.Prelude.{◌≡◌};
 ghost use Rattle.table.specs.WellFormed.{WellFormed};
 ghost use Rattle.choice.specs.Answer.{Sought, within_cap, ChoiceIs};
+ghost use Rattle.choice.specs.Order.{Reordered};
 
-use search::Found;
-use table::{Chosen, Goal, Refusal, Table};
+use search::{Search, Weighed};
+use table::{Fitting, Goal, Refusal, Table};
 
-mod order;
 mod search;
 
-// What the search finds among the kept tests.
-fn chosen_for(table: Table, goal: Goal) -> Found
-    requires { WellFormed table }
-    ensures { Sought table goal result }
+// Puts the masks with few kept tests first: the search is the same, and has fewer nodes.
+#[tactic(auto, using(crate::proofs::Order::reordered))]
+fn few_first(masks: &mut [u32], kept: u32)
+    ensures { Reordered masks.old masks.new }
 {
-    let masks = cover::inner::masks_of(table, goal);
-    let n = masks.count;
-    let mut list = masks.list;
-    let kept = cover::inner::kept_tests(&list[..n], table.tests);
-    order::few_first(&mut list[..n], kept);
-    search::lightest(&list[..n], kept)
+    masks.sort_unstable_by_key(|mask| (*mask & kept).count_ones());
+}
+
+// What the search finds among the kept tests.
+fn chosen_for(table: &Fitting, goal: Goal) -> Option<Weighed>
+    requires { WellFormed table.now.table }
+    ensures { Sought table.now.table goal result }
+{
+    let mut masks = cover::inner::masks_of(table, goal);
+    let kept = cover::inner::kept_tests(&masks, table.tests());
+    few_first(&mut masks, kept);
+    Search {
+        masks: &masks,
+        kept,
+    }
+    .lightest()
 }
 
 // The set that was found, where it weighs no more than the cap.
-fn within_cap(found: Found, cap: u32) -> Chosen
+fn within_cap(found: Option<Weighed>, cap: u32) -> Result<u32, Refusal>
     ensures { result ≡ within_cap found cap }
 {
     match found {
-        Found::Set(set, weight) => if weight <= cap {
-            Chosen::Tests(set)
-        } else {
-            Chosen::Refused(Refusal::NoneWithinCap)
-        },
-        Found::Nothing => Chosen::Refused(Refusal::NoneWithinCap),
+        Some(found) if found.weight <= cap => Ok(found.set),
+        _ => Err(Refusal::NoneWithinCap),
     }
 }
 
 // The choice for the goal, where it has no more tests than the cap.
-pub fn choose(table: Table, goal: Goal, cap: u32) -> Chosen
+pub fn choose(table: Table, goal: Goal, cap: u32) -> Result<u32, Refusal>
     ensures { ChoiceIs table goal cap result }
 {
-    if !table::well_formed(table) {
-        return Chosen::Refused(Refusal::NotWellFormed);
-    }
+    let table = Fitting::of(table)?;
     if cap > 24 {
-        return Chosen::Refused(Refusal::CapTooHigh);
+        return Err(Refusal::CapTooHigh);
     }
-    within_cap(chosen_for(table, goal), cap)
+    within_cap(chosen_for(&table, goal), cap)
 }

@@ -7,20 +7,20 @@ use Prim.Native.Nat.{ℕ, ◌<◌}
 use native.Mathlib.Omega.{arith}
 use Rattle.folds.specs.Fold.{both, every, some, total, joined, single, always, onto, count, first}
 use Rattle.folds.proofs.Bools.{both_left, both_right}
+use Rattle.std.specs.Prelude.{Ok, Err}
 use Rattle.sets.specs.Sets.{bit, has, within, share, one}
 use Rattle.sets.specs.Collect.{with_test, set_of}
 use Rattle.sets.proofs.Bits.{below_of_bits}
 use Rattle.sets.proofs.Weight.{size_most}
-use Rattle.table.specs.Answers.{chosen_set}
+use Rattle.table.specs.Answers.{answer_value}
 use Rattle.table.specs.Table.{place_of, cell_at, empty_table}
 use Rattle.table.specs.Test.{differ, fresh, label_right, cell_right, row_right, well_formed}
 use Rattle.table.specs.WellFormed.{WellFormed}
-use Rattle.table.specs.declared.Chosen.TheVariants.{Tests, Refused}
 use Rattle.table.specs.declared.Goal.{Goal}
 use Rattle.table.specs.declared.Goal.TheVariants.{Detect, Diagnose}
 use Rattle.table.specs.declared.Refusal.{Refusal}
 use Rattle.table.specs.declared.Table.{Table}
-use Rattle.table.proofs.Formed.{formed}
+use Rattle.table.proofs.Tested.{formed}
 use Rattle.terms.specs.Choice.{Choice}
 use Rattle.terms.specs.Columns.{agrees, alike, apart as unlike, class_number, lowest, lowest_of, output_of}
 use Rattle.terms.specs.Terms.{TestOf, class_of, signature}
@@ -54,7 +54,7 @@ all_rows_right [] = true
 all_rows_right (r ∷ rs) = both (right r) (all_rows_right rs)
 
 abbrev Meets : Row → Type 0
-Meets (tb, goal, s) = ChoiceIs tb goal 24 (Tests s)
+Meets (tb, goal, s) = ChoiceIs tb goal 24 (Ok s)
 
 abbrev Claims : List Row → Type 0
 Claims [] = Unit {0}
@@ -83,40 +83,40 @@ two_formed = left.1.1.1.0.0
 
 -- no other set meets the promise
 module _ (tb : Table) (goal : Goal) (s : ℕ) (right-one : Meets (tb, goal, s)) where
-  same_set : (s' : ℕ) → ChoiceIs tb goal 24 (Tests s') → s' ≡ s
-  same_set s' p = ap chosen_set (choose_pins tb goal 24 (Tests s') (Tests s) p right-one)
+  same_set : (s' : ℕ) → ChoiceIs tb goal 24 (Ok s') → s' ≡ s
+  same_set s' p = ap answer_value (choose_pins tb goal 24 (Ok s') (Ok s) p right-one)
 
 -- "a reader or chooser that only ever refuses"
-pub only_refusing : (why : Refusal) → ChoiceIs seen Detect 24 (Refused why) → ⊥
+pub only_refusing : (why : Refusal) → ChoiceIs seen Detect 24 (Err why) → ⊥
 only_refusing why p = apart seen Detect 24 1 why left.0 p
 
 -- "one with a constant choice"
-pub constant : (s : ℕ) → ChoiceIs seen Detect 24 (Tests s) → ChoiceIs unseen Detect 24 (Tests s) → ⊥
+pub constant : (s : ℕ) → ChoiceIs seen Detect 24 (Ok s) → ChoiceIs unseen Detect 24 (Ok s) → ⊥
 constant s p q = omega (arith, same_set seen Detect 1 left.0 s p, same_set unseen Detect 0 left.1.0 s q)
 
 -- "a chooser that weighs the first test truly and merely takes the rest"
-pub rest_taken : (s : ℕ) → ((t : ℕ) → 0 < t → TestOf equal t → bit s t ≡ 1) → ChoiceIs equal Detect 24 (Tests s) → ⊥
+pub rest_taken : (s : ℕ) → ((t : ℕ) → 0 < t → TestOf equal t → bit s t ≡ 1) → ChoiceIs equal Detect 24 (Ok s) → ⊥
 unfolding equal small bit
 rest_taken s takes p = omega (arith, takes 1 (omega arith) (omega arith), ap (λ (x : ℕ). bit x 1) (same_set equal Detect 1 left.1.1.0 s p))
 
 -- "one that takes all tests"
-pub all_taken : (s : ℕ) → ((t : ℕ) → TestOf equal t → bit s t ≡ 1) → ChoiceIs equal Detect 24 (Tests s) → ⊥
+pub all_taken : (s : ℕ) → ((t : ℕ) → TestOf equal t → bit s t ≡ 1) → ChoiceIs equal Detect 24 (Ok s) → ⊥
 all_taken s takes p = rest_taken s (λ t l. takes t) p
 
 -- "Taking the test that sees most faults, again and again: three tests in the six-fault book."
-pub greedy : ChoiceIs six Detect 24 (Tests 7) → ⊥
+pub greedy : ChoiceIs six Detect 24 (Ok 7) → ⊥
 greedy p = omega (arith, same_set six Detect 6 left.1.1.1.1.0 7 p)
 
 -- "Setting aside a low-numbered test because a higher one separates more": then {1, 2}
-pub low_aside : ChoiceIs more Detect 24 (Tests 6) → ⊥
+pub low_aside : ChoiceIs more Detect 24 (Ok 6) → ⊥
 low_aside p = omega (arith, same_set more Detect 5 left.1.1.1.1.1.0 6 p)
 
 -- "Treating a fault as told apart because it is detected": then {0}
-pub only_detecting : ChoiceIs two Diagnose 24 (Tests 1) → ⊥
+pub only_detecting : ChoiceIs two Diagnose 24 (Ok 1) → ⊥
 only_detecting p = omega (arith, same_set two Diagnose 2 left.1.1.1.0 1 p)
 
 -- "Demanding separation of pairs that the whole table can't separate, and so refusing."
-pub demanding : (why : Refusal) → ChoiceIs unseen Detect 24 (Refused why) → ⊥
+pub demanding : (why : Refusal) → ChoiceIs unseen Detect 24 (Err why) → ⊥
 demanding why p = apart unseen Detect 24 0 why left.1.0 p
 
 -- a set that detects need not tell two classes apart: under {0} the two faults of different classes have one signature

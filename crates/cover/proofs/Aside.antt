@@ -20,13 +20,24 @@ use Rattle.sets.proofs.Collect.{set_below, set_has, set_in, set_others}
 use Rattle.sets.proofs.Shared.{only_in, only_one, only_of}
 use Rattle.table.specs.declared.Goal.{Goal}
 use Rattle.table.specs.declared.Goal.TheVariants.{Detect}
+use Rattle.table.specs.declared.Refusal.{Refusal}
+use Rattle.table.specs.declared.Refusal.TheVariants.{NotWellFormed}
 use Rattle.table.specs.declared.Table.{Table}
+use Rattle.table.specs.Answers.{number_of}
+use Rattle.table.specs.Test.{well_formed}
+use Rattle.table.specs.WellFormed.{WellFormed}
+use Rattle.table.proofs.Tested.{tested}
 use Rattle.terms.specs.Terms.{TestOf, GoalPair, Counts, Covers, Aside, Kept, Essential}
 use Rattle.cover.specs.Masks.{masks_of}
 use Rattle.cover.specs.Kept.{has_at, follows_at, follows, is_at, mask_is, used, covers, outdone, kept, lone}
 use Rattle.cover.specs.Answer.{kept_set, lone_set, Exactly, AsideTest}
 use Rattle.cover.proofs.Kept.{outdone_by_lem, outdone_at}
 use Rattle.cover.proofs.Goals.{pair_mask, mask_lt, mask_separates, mask_in, masks_all, masks_at}
+
+-- ---- a table that is refused
+
+pub not_formed : (tb : Table) (why : Refusal) → (why ≡ NotWellFormed) × (well_formed tb ≡ false) → (WellFormed tb → ⊥) × (number_of why ≡ 20)
+not_formed tb why h = (λ w. clash _ (tested tb w) h.1, ap number_of h.0)
 
 -- ---- what the tests over masks say
 

@@ -1,5 +1,5 @@
 -- Laws of the tests weighed by masks. Assumes nothing.
-use mathlib.Core.Bool.{Bool, true, false}
+use mathlib.Core.Bool.{true}
 use mathlib.Core.List.{List}
 use mathlib.Core.Path.{◌≡◌}
 use Prim.Native.Nat.{ℕ, ◌<◌}
@@ -7,18 +7,7 @@ use borrow.Author.Tests.{ltb-true, lt-ltb}
 use lib.Dec.{ltb}
 use Rattle.folds.proofs.Bools.{both_true, both_left, both_right}
 use Rattle.folds.proofs.Some.{some_of, some_at}
-use Rattle.cover.specs.Kept.{covers, outdone_by, outdone, used, kept}
-
--- ---- the code's tests
-
-module _ (masks : List ℕ) (tests t : ℕ) (r : Bool) (e : r ≡ outdone masks tests t) where
-  pub kept_not : r ≡ true → false ≡ kept masks tests t
-  unfolding kept
-  kept_not h = rw (← e, h)
-
-  pub kept_by : r ≡ false → (r' : Bool) → r' ≡ used masks t → r' ≡ kept masks tests t
-  unfolding kept
-  kept_by h r' q = rw (← e, h, q)
+use Rattle.cover.specs.Kept.{covers, outdone_by, outdone}
 
 -- ---- what it means that some test outdoes test t
 

@@ -2,10 +2,10 @@
 use mathlib.Core.Path.{◌≡◌, sym, ap, ◌∙◌}
 use mathlib.Core.Logic.{⊎_elim}
 use Prim.Native.Nat.{ℕ, ◌^◌, ◌<◌}
+use Rattle.std.specs.Prelude.{Result, Ok, Err}
 use Rattle.sets.specs.Sets.{bit}
 use Rattle.sets.proofs.Bits.{bit_cases, bits_equal, below_of_bits}
-use Rattle.table.specs.declared.Chosen.{Chosen}
-use Rattle.table.specs.declared.Chosen.TheVariants.{Tests, Refused}
+use Rattle.table.specs.declared.Refusal.{Refusal}
 use Rattle.table.specs.declared.Goal.{Goal}
 use Rattle.table.specs.declared.Table.{Table}
 use Rattle.table.proofs.Answers.{number_one}
@@ -25,14 +25,14 @@ module _ (tb : Table) (P : ℕ → Type 0) (test : (t : ℕ) → P t → TestOf 
           (λ p. ⊎_elim (λ q. absurd (b.outside t q (a.inside t p))) (λ q. p ∙ sym q) (bit_cases s₂ t))
           (bit_cases s₁ t)
 
-  gives_one : (r₁ r₂ : Chosen) → Gives tb P r₁ → Gives tb P r₂ → r₁ ≡ r₂
-  gives_one (Tests s₁) (Tests s₂) a b = ap Tests (exactly_one s₁ s₂ a.1 b.1)
-  gives_one (Tests s₁) (Refused why₂) a b = absurd (b.0 a.0)
-  gives_one (Refused why₁) (Tests s₂) a b = absurd (a.0 b.0)
-  gives_one (Refused why₁) (Refused why₂) a b = ap Refused (number_one why₁ why₂ (a.1 ∙ sym b.1))
+  gives_one : (r₁ r₂ : Result ℕ Refusal) → Gives tb P r₁ → Gives tb P r₂ → r₁ ≡ r₂
+  gives_one (Ok s₁) (Ok s₂) a b = ap Ok (exactly_one s₁ s₂ a.1 b.1)
+  gives_one (Ok s₁) (Err why₂) a b = absurd (b.0 a.0)
+  gives_one (Err why₁) (Ok s₂) a b = absurd (a.0 b.0)
+  gives_one (Err why₁) (Err why₂) a b = ap Err (number_one why₁ why₂ (a.1 ∙ sym b.1))
 
-pub set_aside_pins : (tb : Table) (goal : Goal) (r₁ r₂ : Chosen) → Gives tb (AsideTest tb goal) r₁ → Gives tb (AsideTest tb goal) r₂ → r₁ ≡ r₂
+pub set_aside_pins : (tb : Table) (goal : Goal) (r₁ r₂ : Result ℕ Refusal) → Gives tb (AsideTest tb goal) r₁ → Gives tb (AsideTest tb goal) r₂ → r₁ ≡ r₂
 set_aside_pins tb goal r₁ r₂ a b = gives_one tb (AsideTest tb goal) (λ t w. w.0) r₁ r₂ a b
 
-pub essential_pins : (tb : Table) (goal : Goal) (r₁ r₂ : Chosen) → Gives tb (Essential tb goal) r₁ → Gives tb (Essential tb goal) r₂ → r₁ ≡ r₂
+pub essential_pins : (tb : Table) (goal : Goal) (r₁ r₂ : Result ℕ Refusal) → Gives tb (Essential tb goal) r₁ → Gives tb (Essential tb goal) r₂ → r₁ ≡ r₂
 essential_pins tb goal r₁ r₂ a b = gives_one tb (Essential tb goal) (λ t w. w.0.0) r₁ r₂ a b

@@ -3,15 +3,28 @@ use mathlib.Core.Bool.{Bool, true, false, not}
 use mathlib.Core.List.{List}
 use mathlib.Core.Logic.{⊎_elim}
 use mathlib.Core.Path.{◌≡◌, refl, sym, ap, ◌∙◌}
-use Prim.Native.Nat.{ℕ, ◌+◌, ◌-◌, ◌*◌, ◌%◌, ◌^◌, ◌≤◌, ◌<◌}
-use native.Mathlib.Nat.{le_antisymm, mod-lt}
+use Prim.Native.Nat.{ℕ, zero, suc, ◌+◌, ◌-◌, ◌*◌, ◌%◌, ◌^◌, ◌≤◌, ◌<◌}
+use native.Mathlib.Nat.{le_refl, mod-lt}
 use native.Mathlib.Numerals.{add-one}
 use native.Mathlib.Omega.{arith}
 use borrow.Author.Tests.{eq-eqb, ne_eqb}
 use lib.Bits.{bit_and, and_le_l, and_mask}
 use lib.Dec.{eqb}
-use lib.ListN.{length, get_or}
+use lib.ListN.{length, get_or, take}
+use lib.Seq.{take-suc, take-length}
 use lib.Pow.{pow_pos}
+use denote.Param.Members.{Mut, Called}
+use denote.Ref.{Bor}
+use Rattle.std.specs.Prelude.{cond}
+use Rattle.std.specs.List.{fold}
+use Rattle.std.specs.Iterator.{ActsAsOnTwo}
+use Rattle.std.specs.Iterator.Runs.{SomeRun, WholeRun, EachRunFrom, CallKeepsClosure, IsFilterRun}
+use Rattle.std.specs.Iterator.Adapters.{filter_steps}
+use Rattle.std.specs.Slice.Iter.{iter_rest, iter_steps}
+use Rattle.std.specs.declared.iter.Filter.{Filter}
+use Rattle.std.specs.declared.slice.Iter.{Iter}
+use Rattle.std.proofs.iter.runs.Sources.{iter_runs}
+use Rattle.std.proofs.lemmas.Grind.{fold-append}
 use Rattle.folds.specs.Fold.{both, every}
 use Rattle.folds.proofs.Below.{eq_or_ne}
 use Rattle.folds.proofs.Bools.{both_yes}
@@ -27,10 +40,10 @@ use Rattle.cover.proofs.Kept.{outdone_by_lem, outdone_at}
 
 module _ (masks : List ℕ) (t : ℕ) where
   -- the tests that are in those of the first i
-  unfoldable pub shared_to : ℕ → ℕ
+  shared_to : ℕ → ℕ
   shared_to i = set_of (λ u. every (follows_at masks u t) i) 24
 
-  pub shared_start : 16777215 ≡ shared_to 0
+  shared_start : 16777215 ≡ shared_to 0
   unfolding shared_to set_of with_test every
   shared_start = refl
 
@@ -41,17 +54,45 @@ module _ (masks : List ℕ) (t : ℕ) where
         let p : ℕ → Bool = λ u. every (follows_at masks u t) i in
         set_is _ 24 s' (omega (arith, e, set_lt p 24)) (λ u m. k u ∙ rw (e, add-one, set_tells p 24 u m))
 
-    pub shared_in : r ≡ true → s' ≡ bit_and s (get_or masks i 0) → s' ≡ shared_to (i + 1)
+    shared_in : r ≡ true → s' ≡ bit_and s (get_or masks i 0) → s' ≡ shared_to (i + 1)
     unfolding follows
     shared_in q g = shared_next (rw g (and_le_l _ _)) (λ u. rw (g, ← h, q) (has_and s (get_or masks i 0) u))
 
-    pub shared_on : r ≡ false → s' ≡ s → s' ≡ shared_to (i + 1)
+    shared_on : r ≡ false → s' ≡ s → s' ≡ shared_to (i + 1)
     unfolding follows
     shared_on q g = shared_next (omega arith) (λ u. rw (g, ← h, q) (both_yes (has s u)))
 
-  pub shared_end : (i s : ℕ) → i ≤ length masks → length masks ≤ i → s ≡ shared_to i → s ≡ set_of (λ u. covers masks u t) 24
-  unfolding shared_to covers
-  shared_end i s l k e = e ∙ ap shared_to (le_antisymm l k)
+  -- the step at a mask
+  step : ℕ → ℕ → ℕ
+  step s m = cond (has m t) (bit_and s m) s
+
+  shared_fold : (i : ℕ) → i ≤ length masks → fold step 16777215 (take i masks) ≡ shared_to i
+  unfolding step
+  shared_fold zero l = shared_start
+  shared_fold (suc i) l = rw (take-suc masks i 0 (omega arith), fold-append, ← add-one i) (go _ (shared_fold i (omega arith)) (has (get_or masks i 0) t) refl)
+    where
+      go : (s : ℕ) → s ≡ shared_to i → (b : Bool) → has (get_or masks i 0) t ≡ b → cond b (bit_and s (get_or masks i 0)) s ≡ shared_to (i + 1)
+      go s e true q = shared_in i s _ true e (sym q) refl refl
+      go s e false q = shared_on i s _ false e (sym q) refl refl
+
+  -- the masks that have test t, as the code goes over them
+  pub shared_by : {F G : Type 0} (g : Mut F (Bor (Bor ℕ) × Unit {0}) Bool) (f : F) (k : Mut G (ℕ × (Bor ℕ × Unit {0})) ℕ) (j : G) (a : Iter ℕ) (b : Filter (Iter ℕ) F) (r : ℕ)
+      → CallKeepsClosure g f → ((x : Bor (Bor ℕ)) (y : Bool) (f' : F) → Called g f (x, tt) y f' → y ≡ has x.now.now t)
+      → ActsAsOnTwo k j (λ s m. bit_and s m.now) → iter_rest a ≡ masks
+      → EachRunFrom (filter_steps iter_steps g) b (λ u. SomeRun iter_steps a (λ q. IsFilterRun u q g f))
+      → WholeRun (filter_steps iter_steps g) b (λ u. (h : ℕ → Bor ℕ → ℕ) → ActsAsOnTwo k j h → r ≡ fold h 16777215 u.items)
+      → r ≡ set_of (λ u. covers masks u t) 24
+  unfolding shared_to covers step
+  shared_by g f k j a b r keeps says acts rest sift (u, e, whole, run) =
+      let q = sift u u.seen e in
+      let c = iter_runs q.0 q.0.seen in
+      run (λ s m. bit_and s m.now) acts
+      ∙ q.2.6 (λ s m. bit_and s m.now) (λ s m. step s m.now) 16777215 (λ x y f' s d.
+      let o : Called g f (d.shown, tt) y f' = d.called in
+      (keeps (d.shown, tt) y f' o, ap (λ v. cond v (bit_and s x.now) s) (ap (λ (m : Bor ℕ). has m.now t) (sym d.shows) ∙ sym (says d.shown y f' o))))
+      ∙ c.5 step 16777215 (q.2.0 ∙ whole)
+      ∙ ap (fold step 16777215) (ap iter_rest q.1 ∙ rest ∙ sym (take-length masks))
+      ∙ shared_fold (length masks) (le_refl _)
 
 -- ---- the lower tests among them, as the code asks for them
 

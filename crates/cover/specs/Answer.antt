@@ -1,12 +1,11 @@
 -- What `set_aside` and `essential` answer. The sentences are document 01's.
 -- Assumes nothing.
-use Rattle.std.specs.Prelude.{◌≡◌, ℕ}
+use Rattle.std.specs.Prelude.{◌≡◌, ℕ, Result, Ok, Err}
 use Rattle.sets.specs.Sets.{bit}
 use Rattle.sets.specs.Collect.{set_of}
 use Rattle.table.specs.Answers.{number_of}
 use Rattle.table.specs.WellFormed.{WellFormed}
-use Rattle.table.specs.declared.Chosen.{Chosen}
-use Rattle.table.specs.declared.Chosen.TheVariants.{Tests, Refused}
+use Rattle.table.specs.declared.Refusal.{Refusal}
 use Rattle.table.specs.declared.Goal.{Goal}
 use Rattle.table.specs.declared.Goal.TheVariants.{Detect}
 use Rattle.table.specs.declared.Table.{Table}
@@ -28,9 +27,9 @@ pub record Exactly (P : ℕ → Type 0) (s : ℕ) : Type 0 where
   pub outside : (t : ℕ) → bit s t ≡ 0 → P t → ⊥
 
 -- the answer for a well-formed table is the set of the tests that have P; any other table gives 20
-abbrev pub Gives : Table → (ℕ → Type 0) → Chosen → Type 0
-Gives tb P (Tests s) = WellFormed tb × Exactly P s
-Gives tb P (Refused why) = (WellFormed tb → ⊥) × (number_of why ≡ 20)
+abbrev pub Gives : Table → (ℕ → Type 0) → Result ℕ Refusal → Type 0
+Gives tb P (Ok s) = WellFormed tb × Exactly P s
+Gives tb P (Err why) = (WellFormed tb → ⊥) × (number_of why ≡ 20)
 
 -- a test of the table that is set aside for the goal
 abbrev pub AsideTest : Table → Goal → ℕ → Type 0

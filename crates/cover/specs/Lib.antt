@@ -1,4 +1,3 @@
 pub mod Masks
-pub mod Filled
 pub mod Kept
 pub mod Answer

@@ -3,39 +3,16 @@ ghost use Rattle.std.specs.Prelude.{◌≡◌, ◌-◌, ◌^◌, ◌≤◌, ◌<
 ghost use Rattle.sets.specs.Collect.{set_of};
 ghost use Rattle.cover.specs.Kept.{mask_is, used, covers, outdone, kept, lone};
 
-// Whether some mask has test t.
-fn used(masks: &[u32], t: usize) -> bool
-    requires { t < 24 }
-    ensures { result ≡ used masks.now t }
-{
-    let mut i: usize = 0;
-    while i < masks.len() {
-        if sets::inner::has(masks[i], t) {
-            return true;
-        }
-        i += 1;
-    }
-    false
-}
-
-// The tests that are in every mask that test t is in; all of them where it is in none.
-fn shared_with(masks: &[u32], t: usize) -> u32
-    requires { t < 24 }
-    ensures { result ≡ set_of (λ u. covers masks.now u t) 24 }
-{
-    let mut shared: u32 = 16777215;
-    let mut i: usize = 0;
-    while i < masks.len() {
-        let mask = masks[i];
-        if sets::inner::has(mask, t) {
-            shared = shared & mask;
-        }
-        i += 1;
-    }
-    shared
+// The masks of a goal's pairs, and how many tests the table has.
+#[derive(Clone, Copy)]
+pub struct Masks<'a> {
+    pub masks: &'a [u32],
+    pub tests: usize,
+    pub ghost tests_fit: { tests ≤ 24 },
 }
 
 // The tests below t.
+#[tactic(auto, using(crate::proofs::Shared::lower_room, crate::proofs::Shared::lower_is))]
 fn lower_tests(t: usize) -> u32
     requires { t < 24 }
     ensures { result ≡ 2 ^ t - 1 }
@@ -43,26 +20,8 @@ fn lower_tests(t: usize) -> u32
     (1 << t) - 1
 }
 
-// Whether some test outdoes test t: it is lower, and in every mask that t is in.
-fn outdone(masks: &[u32], tests: usize, t: usize) -> bool
-    requires { (tests ≤ 24) × (t < tests) }
-    ensures { result ≡ outdone masks.now tests t }
-{
-    shared_with(masks, t) & lower_tests(t) != 0
-}
-
-// Whether test t is kept: no test outdoes it, and some mask has it.
-pub fn is_kept(masks: &[u32], tests: usize, t: usize) -> bool
-    requires { (tests ≤ 24) × (t < tests) }
-    ensures { result ≡ kept masks.now tests t }
-{
-    if outdone(masks, tests, t) {
-        return false;
-    }
-    used(masks, t)
-}
-
 // Whether test t is the mask's only kept test.
+#[tactic(auto, unfolding(crate::specs::Kept::mask_is), using(sets::proofs::Collect::one_shl))]
 fn mask_is(mask: u32, kept: u32, t: usize) -> bool
     requires { t < 24 }
     ensures { result ≡ mask_is kept t mask }
@@ -70,31 +29,65 @@ fn mask_is(mask: u32, kept: u32, t: usize) -> bool
     mask & kept == 1 << t
 }
 
-// Whether test t is some mask's only kept test.
-fn lone(masks: &[u32], kept: u32, t: usize) -> bool
-    requires { t < 24 }
-    ensures { result ≡ lone masks.now kept t }
-{
-    let mut i: usize = 0;
-    while i < masks.len() {
-        if mask_is(masks[i], kept, t) {
-            return true;
-        }
-        i += 1;
+impl Masks<'_> {
+    // Whether some mask has test t.
+    fn uses(&self, t: usize) -> bool
+        requires { t < 24 }
+        ensures { result ≡ used self.now.masks.now t }
+    {
+        self.masks
+            .iter()
+            .any(|mask| sets::inner::has(u64::from(*mask), t))
     }
-    false
-}
 
-// The tests that are the only kept one of some mask.
-pub fn lone_tests(masks: &[u32], kept: u32, tests: usize) -> u32
-    requires { tests ≤ 24 }
-    ensures { result ≡ set_of (lone masks.now kept) tests }
-{
-    let mut set: u32 = 0;
-    let mut i: usize = 0;
-    while i < tests {
-        set = crate::inner::with_test(set, i, lone(masks, kept, i));
-        i += 1;
+    // The tests that are in every mask that test t is in; all of them where it is in none.
+    fn shared_with(&self, t: usize) -> u32
+        requires { t < 24 }
+        ensures { result ≡ set_of (λ u. covers self.now.masks.now u t) 24 }
+    {
+        self.masks
+            .iter()
+            .filter(|mask| sets::inner::has(u64::from(**mask), t))
+            .fold(16777215, |shared, mask| shared & *mask)
     }
-    set
+
+    // Whether some test outdoes test t: it is lower, and in every mask that t is in.
+    #[tactic(auto, using(crate::proofs::Shared::lower_tells))]
+    fn outdone(&self, t: usize) -> bool
+        requires { t < self.now.tests }
+        ensures { result ≡ outdone self.now.masks.now self.now.tests t }
+    {
+        self.shared_with(t) & lower_tests(t) != 0
+    }
+
+    // Whether test t is kept: no test outdoes it, and some mask has it.
+    #[tactic(auto, unfolding(crate::specs::Kept::kept))]
+    fn keeps(&self, t: usize) -> bool
+        requires { t < self.now.tests }
+        ensures { result ≡ kept self.now.masks.now self.now.tests t }
+    {
+        !self.outdone(t) && self.uses(t)
+    }
+
+    // The tests that are not set aside.
+    pub fn kept(&self) -> u32
+        ensures { result ≡ set_of (kept self.now.masks.now self.now.tests) self.now.tests }
+    {
+        sets::inner::set_of(self.tests, |t| self.keeps(t)) as u32
+    }
+
+    // Whether test t is some mask's only kept test.
+    fn lone(&self, kept: u32, t: usize) -> bool
+        requires { t < 24 }
+        ensures { result ≡ lone self.now.masks.now kept t }
+    {
+        self.masks.iter().any(|mask| mask_is(*mask, kept, t))
+    }
+
+    // The tests that are the only kept one of some mask.
+    pub fn lone_tests(&self, kept: u32) -> u32
+        ensures { result ≡ set_of (lone self.now.masks.now kept) self.now.tests }
+    {
+        sets::inner::set_of(self.tests, |t| self.lone(kept, t)) as u32
+    }
 }

@@ -7,6 +7,7 @@ use native.Mathlib.Nat.{add-mul, one-mul, mul-le-mul, le_refl}
 use native.Mathlib.Numerals.{add-one}
 use native.Mathlib.Omega.{arith}
 use lib.ListN.{length, take, drop}
+use Rattle.std.specs.Prelude.{Ok}
 use Rattle.folds.specs.Fold.{count}
 use Rattle.folds.proofs.Joined.{joined_rows, joined_part}
 use Rattle.lent.specs.Lent.{set_number, WritesOnto}
@@ -16,7 +17,6 @@ use Rattle.sets.proofs.Bits.{within_yes}
 use Rattle.sets.proofs.Weight.{size_counts}
 use Rattle.table.specs.Table.{output_at, columns}
 use Rattle.table.specs.declared.Table.{Table}
-use Rattle.table.specs.declared.Written.TheVariants.{Bytes}
 use Rattle.terms.specs.Columns.{lowest, lowest_of, class_number, outputs_under}
 use Rattle.terms.specs.Terms.{signature, class_of, class_count}
 use Rattle.terms_laws.proofs.Classes.{alike_sym, alike_signature, lowest_le, lowest_alike, lowest_of_lem, class_lowest, class_below}
@@ -51,7 +51,7 @@ one_more : (r n : ℕ) → suc r * n ≡ r * n + n
 one_more r n = ap (λ (x : ℕ). x * n) (sym (add-one r)) ∙ add-mul r 1 n ∙ rw one-mul
 
 -- and so it stands in the buffer that an accepted call leaves
-pub written_row : (tb : Table) (s n : ℕ) (d e : List ℕ) → WritesOnto (set_number tb s) (dictionary_of tb s) d (Bytes n) e → (c : ℕ) → c < columns tb
+pub written_row : (tb : Table) (s n : ℕ) (d e : List ℕ) → WritesOnto (set_number tb s) (dictionary_of tb s) d (Ok n) e → (c : ℕ) → c < columns tb
     → take (count (has s) tb.tests) (drop (class_of tb c * count (has s) tb.tests) e) ≡ signature tb s c
 written_row tb s n d e a c w =
     let size : ℕ = count (has s) tb.tests in

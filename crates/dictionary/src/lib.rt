@@ -1,66 +1,55 @@
-// The dictionary: the signature of each class under a set of tests, written to a lent buffer.
+// The dictionary: one row of outputs for each class, written to a lent buffer.
 #![tactic(auto)]
 
 ghost use Rattle.std.specs.Prelude.{◌≡◌, ◌≤◌, ◌<◌, length};
 ghost use Rattle.folds.specs.Fold.{count, onto};
-ghost use Rattle.lent.specs.Lent.{set_number, WritesOnto};
 ghost use Rattle.sets.specs.Sets.{has};
-ghost use Rattle.table.specs.Table.{cell_at};
-ghost use Rattle.terms.specs.Columns.{outputs_under};
-ghost use Rattle.dictionary.specs.Dictionary.{rows_under, dictionary_of};
+ghost use Rattle.terms.specs.Terms.{signature};
+ghost use Rattle.lent.specs.Lent.{set_number, WritesOnto};
+ghost use Rattle.dictionary.specs.Dictionary.{dictionary_of};
 
-use table::{Refusal, Table, Written};
+use lent::Given;
+use table::{Refusal, Table};
 
 // Writes the signature of column c to a row of its length.
-fn write_row(cells: &[u8; 1464], tests: usize, set: u32, c: usize, row: &mut [u8])
-    requires { (tests ≤ 24) × (c < 61) × (length row.old ≡ count (has set) tests) }
-    ensures { row.new ≡ outputs_under (cell_at cells.now) tests set c }
+fn write_row(given: &Given, c: usize, row: &mut [u8])
+    requires { (c < 61) × (length row.old ≡ count (has given.now.set) given.now.table.table.tests) }
+    ensures { row.new ≡ signature given.now.table.table given.now.set c }
 {
-    let mut j = 0;
-    let mut i = 0;
-    while i < tests {
-        if sets::inner::has(set, i) {
-            row[j] = table::inner::cell(cells, i, c);
-            j += 1;
-        }
-        i += 1;
-    }
+    lent::inner::gather(
+        given.table.tests(),
+        |t| given.has(t),
+        |t| given.table.output(t, c),
+        row,
+    );
 }
 
-// Writes the row of each class to its own part of the buffer; n is how many tests the set has.
-fn write_rows(cells: &[u8; 1464], tests: usize, set: u32, columns: usize, n: usize, buf: &mut [u8])
-    requires { (tests ≤ 24) × (columns ≤ 61) × (n ≡ count (has set) tests) × (length (rows_under (cell_at cells.now) tests set columns) ≤ length buf.old) }
-    ensures { buf.new ≡ onto (rows_under (cell_at cells.now) tests set columns) buf.old }
+// Writes the row of each class to its own part of the buffer; n is how many tests the set has. By ranges, since after
+// `chunks_exact_mut` a proof knows the length of a part and not its bytes.
+fn write_rows(given: &Given, n: usize, buf: &mut [u8])
+    requires { (n ≡ count (has given.now.set) given.now.table.table.tests) × (length (dictionary_of given.now.table.table given.now.set) ≤ length buf.old) }
+    ensures { buf.new ≡ onto (dictionary_of given.now.table.table given.now.set) buf.old }
 {
     let mut at = 0;
-    let mut i = 0;
-    while i < columns {
-        if classes::inner::lowest(cells, tests, i) {
-            let end = at + n;
-            write_row(cells, tests, set, i, &mut buf[at..end]);
-            at = end;
+    for c in 0..given.table.columns() {
+        if classes::inner::lowest(&given.table, c) {
+            write_row(given, c, &mut buf[at..at + n]);
+            at += n;
         }
-        i += 1;
     }
 }
 
 // Writes the dictionary of a table under a set of tests.
-pub fn dictionary(table: Table, set: u32, buf: &mut [u8]) -> Written
+#[tactic(auto, unfolding(lent::specs::Lent::set_number, lent::specs::Lent::room_number))]
+pub fn dictionary(table: Table, set: u32, buf: &mut [u8]) -> Result<usize, Refusal>
     ensures { WritesOnto (set_number table set) (dictionary_of table set) buf.old result buf.new }
 {
-    if !table::well_formed(table) {
-        return Written::Refused(Refusal::NotWellFormed);
-    }
-    let tests = table.tests;
-    if !sets::inner::within(set, tests) {
-        return Written::Refused(Refusal::UnknownTest);
-    }
-    let columns = table.faults + 1;
-    let n = sets::inner::size(set, tests);
-    let bytes = classes::inner::class_count(&table.cells, tests, columns) * n;
+    let given = Given::of(table, set)?;
+    let n = given.size();
+    let bytes = classes::inner::class_count(&given.table) * n;
     if buf.len() < bytes {
-        return Written::Refused(Refusal::BufferShort);
+        return Err(Refusal::BufferShort);
     }
-    write_rows(&table.cells, tests, set, columns, n, buf);
-    Written::Bytes(bytes)
+    write_rows(&given, n, buf);
+    Ok(bytes)
 }

@@ -8,22 +8,21 @@ use Prim.Native.Nat.{ℕ, ◌≤◌}
 use lib.ListN.{length, take}
 use Rattle.folds.specs.Fold.{count, every, first, joined, single}
 use Rattle.sets.specs.Sets.{bit, has, within}
-use Rattle.table.specs.Answers.{written_count}
+use Rattle.table.specs.Answers.{answer_value}
 use Rattle.table.specs.Table.{cell_at, empty_table, place_of}
 use Rattle.table.specs.Test.{well_formed}
 use Rattle.table.specs.declared.Classes.{Classes}
 use Rattle.table.specs.declared.Refusal.{Refusal}
-use Rattle.table.specs.declared.Suspects.{Suspects}
-use Rattle.table.specs.declared.Verdict.TheVariants.{Accepted, Refused}
-use Rattle.table.specs.declared.Written.{Written}
-use Rattle.table.proofs.Formed.{tested}
+use Rattle.std.specs.Prelude.{Result, Ok, Err}
+use Rattle.arrayvec.specs.ArrayVec.{ArrayVec}
+use Rattle.table.proofs.Tested.{tested}
 use Rattle.terms.specs.Columns.{agrees, alike, apart, lowest, output_of}
-use Rattle.classes.specs.Classes.{classes_of}
+use Rattle.classes.specs.Classes.{answer_classes, classes_in, classes_of}
 use Rattle.classes.proofs.Meaning.{count_given}
 use Rattle.lent.specs.Lent.{set_number, WritesOnto}
 use Rattle.dictionary.specs.Dictionary.{dictionary_of}
 use Rattle.witness.specs.Witness.{above, separates, sheet_of, witness_of}
-use Rattle.suspects.specs.Suspects.{equal, suspect, suspects_of}
+use Rattle.suspects.specs.Suspects.{answer_list, equal, suspect, suspects_of}
 use Rattle.suspects.proofs.Meaning.{counted}
 use Rattle.choice_laws.proofs.Tables.{row_from, rows_from, small, two}
 use Rattle.choice_laws.proofs.Excluded.{two_formed}
@@ -59,45 +58,45 @@ sheet_bytes : sheet_of two 3 ≡ witnesses
 unfolding two small row_from rows_from empty_table place_of cell_at joined single has bit first separates witness_of above lowest apart alike every agrees
 sheet_bytes = refl
 
-classified : (classes_of two).verdict ≡ Accepted
+classified : classes_of two ≡ Ok (classes_in two)
 unfolding classes_of
 classified = rw well_formed_lem
 
-three_classes : (classes_of two).count ≡ 3
+three_classes : (answer_classes (classes_of two)).count ≡ 3
 unfolding two small row_from rows_from empty_table place_of cell_at count lowest apart alike every agrees
 three_classes = count_given two well_formed_lem (classes_of two) refl
 
 -- under test 0 both faults answer 1
-two_suspects : (suspects_of two 1 (1 ∷ [])).count ≡ 2
+two_suspects : length (answer_list (suspects_of two 1 (1 ∷ []))) ≡ 2
 unfolding two small row_from rows_from empty_table place_of cell_at joined single has bit count suspect equal output_of
 two_suspects = counted two 1 (1 ∷ []) well_formed_lem known.1 refl (suspects_of two 1 (1 ∷ [])) refl
 
 -- ---- what the promises exclude
 
 -- "a dictionary call that writes nothing"
-pub dictionary_writes_nothing : (d : List ℕ) → 6 ≤ length d → (take 6 d ≡ rows → ⊥) → (r : Written) → WritesOnto (set_number two 3) (dictionary_of two 3) d r d → ⊥
+pub dictionary_writes_nothing : (d : List ℕ) → 6 ≤ length d → (take 6 d ≡ rows → ⊥) → (r : Result ℕ Refusal) → WritesOnto (set_number two 3) (dictionary_of two 3) d r d → ⊥
 dictionary_writes_nothing = writes_something (set_number two 3) (dictionary_of two 3) rows unrefused dictionary_bytes
 
 -- the same of the witness sheet
-pub sheet_writes_nothing : (d : List ℕ) → 3 ≤ length d → (take 3 d ≡ witnesses → ⊥) → (r : Written) → WritesOnto (set_number two 3) (sheet_of two 3) d r d → ⊥
+pub sheet_writes_nothing : (d : List ℕ) → 3 ≤ length d → (take 3 d ≡ witnesses → ⊥) → (r : Result ℕ Refusal) → WritesOnto (set_number two 3) (sheet_of two 3) d r d → ⊥
 sheet_writes_nothing = writes_something (set_number two 3) (sheet_of two 3) witnesses unrefused sheet_bytes
 
 -- "a class, byte or test count made up": the bytes of the dictionary,
-pub made_up_dictionary_bytes : (d : List ℕ) → 6 ≤ length d → (n : ℕ) → (n ≡ 6 → ⊥) → (r : Written) (e : List ℕ) → WritesOnto (set_number two 3) (dictionary_of two 3) d r e → written_count r ≡ n → ⊥
+pub made_up_dictionary_bytes : (d : List ℕ) → 6 ≤ length d → (n : ℕ) → (n ≡ 6 → ⊥) → (r : Result ℕ Refusal) (e : List ℕ) → WritesOnto (set_number two 3) (dictionary_of two 3) d r e → answer_value r ≡ n → ⊥
 made_up_dictionary_bytes = no_other_length (set_number two 3) (dictionary_of two 3) rows unrefused dictionary_bytes
 
 -- of the witness sheet,
-pub made_up_sheet_bytes : (d : List ℕ) → 3 ≤ length d → (n : ℕ) → (n ≡ 3 → ⊥) → (r : Written) (e : List ℕ) → WritesOnto (set_number two 3) (sheet_of two 3) d r e → written_count r ≡ n → ⊥
+pub made_up_sheet_bytes : (d : List ℕ) → 3 ≤ length d → (n : ℕ) → (n ≡ 3 → ⊥) → (r : Result ℕ Refusal) (e : List ℕ) → WritesOnto (set_number two 3) (sheet_of two 3) d r e → answer_value r ≡ n → ⊥
 made_up_sheet_bytes = no_other_length (set_number two 3) (sheet_of two 3) witnesses unrefused sheet_bytes
 
 -- the classes,
-pub made_up_classes : (n : ℕ) → (n ≡ 3 → ⊥) → (c : Classes) → c ≡ classes_of two → c.count ≡ n → ⊥
-made_up_classes = no_other (λ (c : Classes). c.count) (classes_of two) 3 three_classes
+pub made_up_classes : (n : ℕ) → (n ≡ 3 → ⊥) → (c : Result Classes Refusal) → c ≡ classes_of two → (answer_classes c).count ≡ n → ⊥
+made_up_classes = no_other (λ (c : Result Classes Refusal). (answer_classes c).count) (classes_of two) 3 three_classes
 
 -- and the suspects
-pub made_up_suspects : (n : ℕ) → (n ≡ 2 → ⊥) → (r : Suspects) → r ≡ suspects_of two 1 (1 ∷ []) → r.count ≡ n → ⊥
-made_up_suspects = no_other (λ (r : Suspects). r.count) (suspects_of two 1 (1 ∷ [])) 2 two_suspects
+pub made_up_suspects : (n : ℕ) → (n ≡ 2 → ⊥) → (r : Result (ArrayVec ℕ) Refusal) → r ≡ suspects_of two 1 (1 ∷ []) → length (answer_list r) ≡ n → ⊥
+made_up_suspects = no_other (λ (r : Result (ArrayVec ℕ) Refusal). length (answer_list r)) (suspects_of two 1 (1 ∷ [])) 2 two_suspects
 
 -- "a reader or chooser that only ever refuses": such a version of `classify`
-pub classes_only_refusing : (why : Refusal) (c : Classes) → c ≡ classes_of two → c.verdict ≡ Refused why → ⊥
-classes_only_refusing why = no_other (λ (c : Classes). c.verdict) (classes_of two) Accepted classified (Refused why) (refused_differs why)
+pub classes_only_refusing : (why : Refusal) (c : Result Classes Refusal) → c ≡ classes_of two → c ≡ Err why → ⊥
+classes_only_refusing why = no_other (λ (c : Result Classes Refusal). c) (classes_of two) (Ok (classes_in two)) classified (Err why) (refused_differs why (classes_in two))

@@ -11,8 +11,7 @@ use Rattle.table.specs.Table.{cell_at, empty_table, place_of}
 use Rattle.table.specs.declared.Reading.{Reading}
 use Rattle.table.specs.declared.Refusal.{Refusal}
 use Rattle.table.specs.declared.Table.{Table}
-use Rattle.table.specs.declared.Verdict.{Verdict}
-use Rattle.table.specs.declared.Verdict.TheVariants.{Accepted, Refused}
+use Rattle.std.specs.Prelude.{Result, Ok, Err}
 use Rattle.grow.specs.Grow.{differs, filled}
 use Rattle.book.specs.Reading.{read_book}
 use Rattle.records.specs.Step.{record_bytes, edge_rule, end_rule, fault_rule, first_of, kind_rule, response_rule, rule_at, step_at, test_rule, unknown_rule}
@@ -26,7 +25,7 @@ use Rattle.excluded.proofs.Left.{no_other, refused_differs}
 
 -- ---- what a reading says
 
-abbrev verdict_of : Reading → Verdict
+abbrev verdict_of : Reading → Result (Unit {0}) Refusal
 verdict_of r = r.verdict
 
 abbrev test_count : Reading → ℕ
@@ -37,13 +36,13 @@ fault_count r = r.table.faults
 
 -- ---- "Two equal tests and one fault they see"
 
-read : (verdict_of (read_book equal_tests) ≡ Accepted) × (test_count (read_book equal_tests) ≡ 2) × (fault_count (read_book equal_tests) ≡ 1)
+read : (verdict_of (read_book equal_tests) ≡ Ok tt) × (test_count (read_book equal_tests) ≡ 2) × (fault_count (read_book equal_tests) ≡ 1)
 unfolding read_book step_at rule_at kind_rule edge_rule unknown_rule end_rule response_rule fault_rule test_rule first_of filled differs empty_table cell_at place_of every
 read = (refl, refl, refl)
 
 -- "a reader or chooser that only ever refuses"
-pub reader_only_refusing : (why : Refusal) (r : Reading) → r ≡ read_book equal_tests → r.verdict ≡ Refused why → ⊥
-reader_only_refusing why = no_other verdict_of (read_book equal_tests) Accepted read.0 (Refused why) (refused_differs why)
+pub reader_only_refusing : (why : Refusal) (r : Reading) → r ≡ read_book equal_tests → r.verdict ≡ Err why → ⊥
+reader_only_refusing why = no_other verdict_of (read_book equal_tests) (Ok tt) read.0 (Err why) (refused_differs why tt)
 
 -- "a class, byte or test count made up": of tests
 pub made_up_tests : (n : ℕ) → (n ≡ 2 → ⊥) → (r : Reading) → r ≡ read_book equal_tests → r.table.tests ≡ n → ⊥
@@ -56,11 +55,11 @@ made_up_faults = no_other fault_count (read_book equal_tests) 1 read.2
 -- ---- every book
 
 -- "a reader or chooser that only ever refuses": no book of a well-formed table is refused
-pub refuses_a_good_book : (book : List ℕ) (tb : Table) → BookOfTable book tb → (why : Refusal) (r : Reading) → r ≡ read_book book → r.verdict ≡ Refused why → ⊥
-refuses_a_good_book book tb b why = no_other verdict_of (read_book book) Accepted (ap verdict_of (book_accepts book tb b)) (Refused why) (refused_differs why)
+pub refuses_a_good_book : (book : List ℕ) (tb : Table) → BookOfTable book tb → (why : Refusal) (r : Reading) → r ≡ read_book book → r.verdict ≡ Err why → ⊥
+refuses_a_good_book book tb b why = no_other verdict_of (read_book book) (Ok tt) (ap verdict_of (book_accepts book tb b)) (Err why) (refused_differs why tt)
 
 -- an accepted book's last record: "45 hex | 2 bytes | end: number of tests, number of faults"
-module _ (book : List ℕ) (taken : (read_book book).verdict ≡ Accepted) where
+module _ (book : List ℕ) (taken : (read_book book).verdict ≡ Ok tt) where
   abbrev tb : Table
   tb = (read_book book).table
 

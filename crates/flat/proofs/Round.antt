@@ -15,7 +15,15 @@ use Rattle.table.specs.declared.Table.{Table}
 use Rattle.table.proofs.Stored.{cell_here, cell_there, cells_same}
 use Rattle.flat.specs.Flat.{byte_at, cells_filled, table_of, cell_of, label_of, bytes_of}
 
-filled_long : (bytes : List ℕ) (k : ℕ) → length (cells_filled bytes k) ≡ 1464
+-- a list by its entries
+pub listed_is : (f : ℕ → ℕ) (n : ℕ) (xs : List ℕ) → length xs ≡ n → ((i : ℕ) → i < n → f i ≡ get_or xs i 0) → listed f n ≡ xs
+listed_is f n xs long same =
+    let m = listed_length f n in
+    ext_get_or 0 (listed f n) xs (m ∙ sym long) λ i l.
+    let h : i < n = rw m at l in
+    listed_get f n i h ∙ same i h
+
+pub filled_long : (bytes : List ℕ) (k : ℕ) → length (cells_filled bytes k) ≡ 1464
 unfolding cells_filled
 filled_long bytes zero = length-replicate {A = ℕ} 1464 0
 filled_long bytes (suc k) = length-set (cells_filled bytes k) (place_of (k / 61) (k % 61)) (get_or bytes (k + 2) 0) ∙ filled_long bytes k
@@ -77,13 +85,6 @@ module _ (tb : Table) where
       let e : 1526 + f ≡ 2 + (length cells + (length lines + f)) = omega (arith, listed_length (cell_of (output_at tb)) 1464, listed_length (label_of tb.lines) 60) in
       rw e (past (length cells + (length lines + f)) ∙ behind cells (lines ++ stuck) (length lines + f) ∙ behind lines stuck f ∙ listed_get (label_of tb.stuck) 60 f h)
 
-  labels_back : (from : ℕ) (xs : List ℕ) → length xs ≡ 60 → ((f : ℕ) → f < 60 → byte_at (bytes_of tb) from f ≡ get_or xs f 0) → listed (byte_at (bytes_of tb) from) 60 ≡ xs
-  labels_back from xs long same =
-      let n = listed_length (byte_at (bytes_of tb) from) 60 in
-      ext_get_or 0 (listed (byte_at (bytes_of tb) from) 60) xs (n ∙ sym long) λ f l.
-      let h : f < 60 = rw n at l in
-      listed_get (byte_at (bytes_of tb) from) 60 f h ∙ same f h
-
   counts : (get_or (bytes_of tb) 0 0 ≡ tb.tests) × (get_or (bytes_of tb) 1 0 ≡ tb.faults)
   unfolding bytes_of
   counts = (refl, refl)
@@ -93,4 +94,4 @@ module _ (tb : Table) where
   unfolding table_of
   bytes_back o =
       let c : cells_filled (bytes_of tb) 1464 ≡ tb.cells = cells_same _ _ (filled_long (bytes_of tb) 1464) o.cells_long (λ t c h l. filled_at (bytes_of tb) t c h l 1464 (omega arith) (omega arith) ∙ cell_byte t c h l) in
-      rw (counts.0, counts.1, c, labels_back 1466 tb.lines o.lines_long line_byte, labels_back 1526 tb.stuck o.stuck_long stuck_byte) refl
+      rw (counts.0, counts.1, c, listed_is (byte_at (bytes_of tb) 1466) 60 tb.lines o.lines_long line_byte, listed_is (byte_at (bytes_of tb) 1526) 60 tb.stuck o.stuck_long stuck_byte) refl

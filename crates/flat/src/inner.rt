@@ -1,6 +1,6 @@
 // What turns lent bytes and numbers into our types and back.
 pub mod answers;
-pub mod bytes;
+pub mod buffers;
 pub mod marks;
 pub mod tables;
 

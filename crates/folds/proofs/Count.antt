@@ -1,9 +1,9 @@
 -- Laws of `count`, and the facts of a loop that counts. Assumes nothing.
-use mathlib.Core.Path.{◌≡◌, refl, sym, ap, ◌∙◌}
+use mathlib.Core.Path.{◌≡◌, refl, sym, ◌∙◌}
 use mathlib.Core.Bool.{Bool, true, false}
 use mathlib.Core.Logic.{⊎_elim}
 use Prim.Native.Nat.{ℕ, zero, suc, ◌+◌, ◌-◌, ◌≤◌, ◌<◌}
-use native.Mathlib.Nat.{le_antisymm, le_refl}
+use native.Mathlib.Nat.{le_refl}
 use native.Mathlib.Numerals.{add-one}
 use native.Mathlib.Omega.{arith}
 use Rattle.folds.specs.Fold.{pick, count}
@@ -65,7 +65,7 @@ count_above p a h (suc i) = go (p i) refl (count_above p a h i)
     go true e k = omega (arith, h i e)
     go false e k = omega arith
 
--- ---- a loop `while i < n { if test(i) { k += 1; } i += 1; } k`, with the invariant k ≡ count p i
+-- ---- a loop `for i in 0..n { if test(i) { k += 1; } }`, with the invariant k ≡ count p i
 
 pub count_start : (p : ℕ → Bool) → 0 ≡ count p 0
 count_start p = sym (count_none p)
@@ -76,11 +76,6 @@ count_up p i k k' r h e q f = omega (arith, count_yes p i (sym e ∙ q))
 pub count_on : (p : ℕ → Bool) (i k k' : ℕ) (r : Bool) → k ≡ count p i → r ≡ p i → r ≡ false → k' ≡ k → k' ≡ count p (i + 1)
 count_on p i k k' r h e q f = omega (arith, count_no p i (sym e ∙ q))
 
-pub count_end : (p : ℕ → Bool) (n i k : ℕ) → i ≤ n → n ≤ i → k ≡ count p i → k ≡ count p n
-count_end p n i k h w e = e ∙ ap (count p) (le_antisymm h w)
-
 -- the counter fits: it is at most the number of turns
 pub count_fits : (p : ℕ → Bool) (i k : ℕ) → k ≡ count p i → k ≤ i
 count_fits p i k e = omega (arith, count_le p i)
-
-pub ruleset tally = (count_start, count_up, count_on, count_end)

@@ -1,12 +1,10 @@
--- Laws of `every`, and the facts of a loop that stops where a test fails. Assumes nothing.
-use mathlib.Core.Path.{◌≡◌, refl, sym, ap, ◌∙◌}
-use mathlib.Core.Bool.{Bool, true, false, not}
+-- Laws of `every`. Assumes nothing.
+use mathlib.Core.Path.{◌≡◌, refl}
+use mathlib.Core.Bool.{Bool, true, false}
 use mathlib.Core.Logic.{⊎_elim}
-use Prim.Native.Nat.{ℕ, zero, suc, ◌+◌, ◌≤◌, ◌<◌, zero-le}
-use native.Mathlib.Nat.{le_antisymm, not-suc-le-zero}
-use native.Mathlib.Numerals.{add-one}
+use Prim.Native.Nat.{ℕ, zero, suc, ◌<◌}
+use native.Mathlib.Nat.{not-suc-le-zero}
 use native.Mathlib.Omega.{arith}
-use borrow.Author.Tests.{not-true, not-false}
 use Rattle.folds.specs.Fold.{both, every}
 use Rattle.folds.proofs.Bools.{both_true, both_left, both_right, both_false}
 use Rattle.folds.proofs.Below.{below_cases}
@@ -14,10 +12,6 @@ use Rattle.folds.proofs.Below.{below_cases}
 pub every_none : (p : ℕ → Bool) → every p 0 ≡ true
 unfolding every
 every_none p = refl
-
-pub every_more : (p : ℕ → Bool) (i : ℕ) → every p i ≡ true → p i ≡ true → every p (i + 1) ≡ true
-unfolding every
-every_more p i h q = rw (add-one, h, q)
 
 pub every_fails : (p : ℕ → Bool) (n i : ℕ) → i < n → p i ≡ false → every p n ≡ false
 unfolding every
@@ -47,19 +41,3 @@ every_lacks p (suc n) h = go (every p n) refl (every_lacks p n) h
     go : (b : Bool) → every p n ≡ b → (every p n ≡ false → (i : ℕ) × (i < n) × (p i ≡ false)) → both b (p n) ≡ false → (i : ℕ) × (i < suc n) × (p i ≡ false)
     go true e r k = (n, omega arith, k)
     go false e r k = let w = r e in (w.0, omega (arith, w.1), w.2)
-
--- ---- a loop `while i < n { if !test(i) { return false; } i += 1; } true`, with the invariant every p i ≡ true
-
-pub every_stop : (p : ℕ → Bool) (n i : ℕ) (r : Bool) → i < n → r ≡ p i → not r ≡ true → false ≡ every p n
-every_stop p n i r h e q = sym (every_fails p n i h (sym e ∙ not-true r q))
-
-pub every_turn : (p : ℕ → Bool) (i : ℕ) (r : Bool) → every p i ≡ true → r ≡ p i → not r ≡ false → every p (i + 1) ≡ true
-every_turn p i r h e q = every_more p i h (sym e ∙ not-false r q)
-
-pub every_end : (p : ℕ → Bool) (n i : ℕ) → i ≤ n → n ≤ i → every p i ≡ true → true ≡ every p n
-every_end p n i h k e = sym e ∙ ap (every p) (le_antisymm h k)
-
-pub every_start : (p : ℕ → Bool) (n : ℕ) → (0 ≤ n) × (every p 0 ≡ true)
-every_start p n = (zero-le, every_none p)
-
-pub ruleset scan = (every_stop, every_turn, every_end, every_start)

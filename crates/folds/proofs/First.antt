@@ -1,10 +1,9 @@
--- Laws of `first`, and the facts of a loop that looks for the lowest number. Assumes nothing.
-use mathlib.Core.Path.{◌≡◌, refl, sym, ap, ◌∙◌}
+-- Laws of `first`. Assumes nothing.
+use mathlib.Core.Path.{◌≡◌, refl, ap}
 use mathlib.Core.Bool.{Bool, true, false}
-use Prim.Native.Nat.{ℕ, zero, suc, ◌+◌, ◌≤◌, ◌<◌, zero-le}
-use native.Mathlib.Nat.{le_antisymm, not-suc-le-zero}
+use Prim.Native.Nat.{ℕ, zero, suc, ◌≤◌, ◌<◌, zero-le}
+use native.Mathlib.Nat.{not-suc-le-zero}
 use native.Mathlib.Omega.{arith}
-use borrow.Author.Count.{below_more}
 use Rattle.folds.specs.Fold.{pick, first}
 
 pub first_found : (p : ℕ → Bool) (n i : ℕ) → i < n → ((k : ℕ) → k < i → p k ≡ false) → p i ≡ true → first p n ≡ i
@@ -52,23 +51,3 @@ pub first_same : (p q : ℕ → Bool) (n : ℕ) → ((i : ℕ) → i < n → p i
 unfolding first
 first_same p q zero e = refl
 first_same p q (suc n) e = rw (e zero (omega arith), first_same (λ i. p (suc i)) (λ i. q (suc i)) n (λ i w. e (suc i) (omega arith)))
-
--- ---- a loop `while i < n { if test(i) { return i; } i += 1; } n`, with the invariant first p i ≡ i
-
-pub first_start : (p : ℕ → Bool) → first p 0 ≡ 0
-unfolding first
-first_start p = refl
-
-none_below : (p : ℕ → Bool) (i : ℕ) → first p i ≡ i → (k : ℕ) → k < i → p k ≡ false
-none_below p i h k w = first_below p i k (omega arith)
-
-pub first_stop : (p : ℕ → Bool) (n i : ℕ) (r : Bool) → i < n → first p i ≡ i → r ≡ p i → r ≡ true → i ≡ first p n
-first_stop p n i r w h e q = sym (first_found p n i w (none_below p i h) (sym e ∙ q))
-
-pub first_turn : (p : ℕ → Bool) (i : ℕ) (r : Bool) → first p i ≡ i → r ≡ p i → r ≡ false → first p (i + 1) ≡ i + 1
-first_turn p i r h e q = first_none p (i + 1) (below_more _ _ (none_below p i h) (sym e ∙ q))
-
-pub first_end : (p : ℕ → Bool) (n i : ℕ) → i ≤ n → n ≤ i → first p i ≡ i → n ≡ first p n
-first_end p n i h k e = let w = le_antisymm h k in sym w ∙ sym e ∙ ap (first p) w
-
-pub ruleset seek = (first_start, first_stop, first_turn, first_end)

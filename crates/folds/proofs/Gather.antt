@@ -11,7 +11,7 @@ use lib.Seq.{get_or_at}
 use Rattle.folds.specs.Fold.{count, joined, single, gather, always, listed, onto}
 use Rattle.folds.proofs.Below.{below_cases}
 use Rattle.folds.proofs.Count.{count_less}
-use Rattle.folds.proofs.Onto.{onto_none, onto_get, onto_store, onto_full}
+use Rattle.folds.proofs.Onto.{onto_none, onto_get, onto_store}
 use Rattle.folds.proofs.Joined.{joined_alike, joined_none, joined_yes, joined_no, joined_rows}
 
 module _ (p : ℕ → Bool) (f : ℕ → ℕ) where
@@ -19,7 +19,7 @@ module _ (p : ℕ → Bool) (f : ℕ → ℕ) where
   unfolding single
   gather_length n = joined_rows p (single f) 1 n (λ i. refl) ∙ mul-one _
 
-  gather_yes : (i : ℕ) → p i ≡ true → gather p f (i + 1) ≡ gather p f i ++ (f i ∷ [])
+  pub gather_yes : (i : ℕ) → p i ≡ true → gather p f (i + 1) ≡ gather p f i ++ (f i ∷ [])
   unfolding single
   gather_yes i h = joined_yes p (single f) i h
 
@@ -43,10 +43,6 @@ module _ (p : ℕ → Bool) (f : ℕ → ℕ) where
   pub gather_end : (n i : ℕ) (d s : List ℕ) → s ≡ onto (gather p f i) d → i ≤ n → n ≤ i → s ≡ onto (gather p f n) d
   gather_end n i d s e h k = e ∙ ap (λ (m : ℕ). onto (gather p f m) d) (le_antisymm h k)
 
-  -- in a buffer that is just as long as the answer
-  pub gather_full : (n i : ℕ) (d s : List ℕ) → s ≡ onto (gather p f i) d → i ≤ n → n ≤ i → length d ≡ count p n → s ≡ gather p f n
-  gather_full n i d s e h k l = gather_end n i d s e h k ∙ onto_full (gather p f n) d (gather_length n ∙ sym l)
-
 -- values that agree where they are taken are gathered to one list
 pub gather_agree : (p : ℕ → Bool) (f h : ℕ → ℕ) (n : ℕ) → ((i : ℕ) → i < n → p i ≡ true → f i ≡ h i) → gather p f n ≡ gather p h n
 unfolding single
@@ -69,8 +65,6 @@ gather_get p f (suc n) i w h =
 -- the place of the next store lies in a buffer that is as long as the whole answer
 pub gather_room : (p : ℕ → Bool) (n i j : ℕ) (r : Bool) (d s : List ℕ) → j ≡ count p i → i < n → r ≡ p i → r ≡ true → length s ≡ length d → length d ≡ count p n → j < length s
 gather_room p n i j r d s e w q h l m = omega (arith, count_less p i n w (sym q ∙ h))
-
-pub ruleset gathers = (gather_start, gather_store, gather_pass, gather_room, gather_full)
 
 -- ---- a value for each number
 

@@ -4,7 +4,7 @@ use mathlib.Core.Bool.{Bool, true, false}
 use mathlib.Core.List.{List, [], ◌++◌, append-nil}
 use mathlib.Core.Logic.{⊎_elim}
 use Prim.Native.Nat.{ℕ, zero, suc, ◌+◌, ◌-◌, ◌*◌, ◌≤◌, ◌<◌}
-use native.Mathlib.Nat.{le_refl, le_trans, le_antisymm, zero-mul, add-mul, one-mul, not-suc-le-zero}
+use native.Mathlib.Nat.{le_refl, le_trans, zero-mul, add-mul, one-mul, not-suc-le-zero}
 use native.Mathlib.Numerals.{add-one}
 use native.Mathlib.Omega.{arith}
 use lib.ListN.{length, take, drop, length-append, length-drop}
@@ -119,13 +119,8 @@ module _ (p : ℕ → Bool) (g : ℕ → List ℕ) where
       → length (joined p g m) ≤ length d → length b ≡ length d → at + n ≤ length b
   rows_room i m at n r d b e q h en w k l = omega (arith, yes_length i (sym q ∙ h), joined_mono (i + 1) m (omega arith))
 
-  pub rows_end : (i m : ℕ) (d b : List ℕ) → b ≡ onto (joined p g i) d → i ≤ m → m ≤ i → b ≡ onto (joined p g m) d
-  rows_end i m d b e h k = e ∙ ap (λ (n : ℕ). onto (joined p g n) d) (le_antisymm h k)
-
 -- where every row below n is taken, and they are of one length
 pub joined_exact : (p : ℕ → Bool) (g : ℕ → List ℕ) (k n : ℕ) → ((i : ℕ) → i < n → p i ≡ true) → ((i : ℕ) → i < n → length (g i) ≡ k) → length (joined p g n) ≡ n * k
 unfolding joined
 joined_exact p g k zero h l = omega arith
 joined_exact p g k (suc n) h l = rw (h n (omega arith)) (simp length-append (omega (arith, l n (omega arith), joined_exact p g k n (λ i m. h i (omega arith)) (λ i m. l i (omega arith)))))
-
-pub ruleset rows = (rows_start, rows_zero, rows_put, rows_pass, rows_at, rows_stay, rows_room, rows_end)

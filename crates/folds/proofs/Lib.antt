@@ -1,5 +1,6 @@
 pub mod Bools
 pub mod Below
+pub mod Ends
 pub mod Every
 pub mod Some
 pub mod Count
@@ -12,3 +13,4 @@ pub mod All
 pub mod Gather
 pub mod Decide
 pub mod Lengths
+pub mod Chains

@@ -1,12 +1,12 @@
 -- Laws of `onto`: a list over the front of a buffer. Assumes nothing.
-use mathlib.Core.Path.{◌≡◌, refl, sym, ap, ◌∙◌}
+use mathlib.Core.Path.{◌≡◌, refl, ◌∙◌}
 use mathlib.Core.List.{List, [], ◌∷◌, ◌++◌, append_assoc, append-nil}
 use Prim.Native.Nat.{ℕ, ◌+◌, ◌-◌, ◌^◌, ◌≤◌, ◌<◌}
 use native.Mathlib.Nat.{lt_of_le_of_lt}
 use native.Mathlib.Numerals.{add-one}
 use native.Mathlib.Omega.{arith}
-use lib.ListN.{length, get_or, take, drop, set, length-append, length-drop, length-take, length-set, get_or-append}
-use lib.Seq.{take-append-le, drop-append-le, take-length, drop-drop, drop-cons, set-append_seam, append_snoc, drop-length, take-append_seam, drop-append_seam}
+use lib.ListN.{length, get_or, take, drop, set, length-append, length-drop, length-take, get_or-append}
+use lib.Seq.{take-append-le, drop-append-le, drop-drop, drop-cons, set-append_seam, append_snoc, drop-length, take-append_seam, drop-append_seam}
 use mir.Syntax.{w64}
 use mir.Val.{Fits}
 use Rattle.folds.specs.Fold.{onto}
@@ -39,10 +39,6 @@ pub onto_get : (xs d : List ℕ) (i : ℕ) → i < length xs → get_or (onto xs
 unfolding onto
 onto_get xs d i h = get_or-append xs (drop (length xs) d) 0 i h
 
-pub onto_room : (xs d : List ℕ) → length xs ≤ length (onto xs d)
-unfolding onto
-onto_room xs d = rw length-append (omega arith)
-
 -- a store right behind what is written
 pub onto_store : (xs d : List ℕ) (v : ℕ) → length xs < length d → set (onto xs d) (length xs) v ≡ onto (xs ++ (v ∷ [])) d
 unfolding onto
@@ -61,19 +57,6 @@ pub onto_part : (xs row d s s' : List ℕ) (at n : ℕ) → s ≡ onto xs d → 
     → s' ≡ take at s ++ (row ++ drop (at + n - at) (drop at s)) → s' ≡ onto (xs ++ row) d
 onto_part xs row d s s' at n e ea en t = t ∙ rw (e, ea, en) (onto_part₀ xs row d)
 
--- a list written to what is behind `at`, where `at` is the end of what was written before: the buffer as a call
--- `f(&mut b[at..])` leaves it
-pub onto_behind : (ys xs d b b' row : List ℕ) (at m : ℕ) → length b ≡ m → b ≡ onto ys d → at ≡ length ys
-    → row ≡ onto xs (take (m - at) (drop at b)) → b' ≡ take at b ++ (row ++ drop (m - at) (drop at b)) → b' ≡ onto (ys ++ xs) d
-unfolding onto
-onto_behind ys xs d b b' row at m l e k r h =
-    let n : m - at ≡ length (drop at b) = rw (← l) (sym (length-drop at b)) in
-    let f : take at b ≡ ys = rw (e, k) (take-append_seam ys (drop (length ys) d)) in
-    let g : drop at b ≡ drop (length ys) d = rw (e, k) (drop-append_seam ys (drop (length ys) d)) in
-    h
-    ∙ ap (λ (x : List ℕ). take at b ++ (x ++ drop (m - at) (drop at b))) r
-    ∙ rw (n, take-length (drop at b), drop-length (drop at b), append-nil, f, g, length-append, append_assoc, drop-drop)
-
 -- the part that is lent is as long as its row
 pub part_length : (n at k : ℕ) (b : List ℕ) → at + n ≤ length b → n ≡ k → length (take (at + n - at) (drop at b)) ≡ k
 part_length n at k b h e = simp (length-take, length-drop) (omega arith)
@@ -81,15 +64,3 @@ part_length n at k b h e = simp (length-take, length-drop) (omega arith)
 -- the end of a part that lies in the buffer fits
 pub part_fits : (n at : ℕ) (d b : List ℕ) → at + n ≤ length b → length b ≡ length d → length d < 2 ^ 64 → Fits w64 (at + n)
 part_fits n at d b h l m = record { fits = lt_of_le_of_lt h (rw l m) }
-
--- a store, no store, and a part that came back keep the length
-pub kept_set_lem : (s s' d : List ℕ) (j v : ℕ) → s' ≡ set s j v → length s ≡ length d → length s' ≡ length d
-kept_set_lem s s' d j v e l = ap length e ∙ length-set s j v ∙ l
-
-pub kept_same : (s s' d : List ℕ) → s' ≡ s → length s ≡ length d → length s' ≡ length d
-kept_same s s' d e l = ap length e ∙ l
-
-pub kept_part : (d b b' x : List ℕ) → b' ≡ x → length x ≡ length b → length b ≡ length d → length b' ≡ length d
-kept_part d b b' x e f g = ap length e ∙ f ∙ g
-
-pub ruleset keeps = (kept_set_lem, kept_same)

@@ -1,10 +1,8 @@
--- Laws of `some`, and the facts of a loop that stops where a test holds. Assumes nothing.
+-- Laws of `some`. Assumes nothing.
 use mathlib.Core.Bool.{Bool, true, false}
 use mathlib.Core.Logic.{⊎_elim}
-use mathlib.Core.Path.{◌≡◌, refl, sym, ap, ◌∙◌}
-use Prim.Native.Nat.{ℕ, zero, suc, ◌+◌, ◌≤◌, ◌<◌}
-use native.Mathlib.Nat.{le_antisymm}
-use native.Mathlib.Numerals.{add-one}
+use mathlib.Core.Path.{◌≡◌, refl}
+use Prim.Native.Nat.{ℕ, zero, suc, ◌<◌}
 use native.Mathlib.Omega.{arith}
 use Rattle.folds.specs.Fold.{either, some}
 use Rattle.folds.proofs.Below.{below_cases}
@@ -25,21 +23,3 @@ module _ (p : ℕ → Bool) where
       go : (b : Bool) → some p n ≡ b → (some p n ≡ true → (i : ℕ) × (i < n) × (p i ≡ true)) → either b (p n) ≡ true → (i : ℕ) × (i < suc n) × (p i ≡ true)
       go true e r k = let w = r e in (w.0, omega (arith, w.1), w.2)
       go false e r k = (n, omega arith, k)
-
-  -- ---- a loop `while i < n { if test(i) { return true; } i += 1; } false`, with the invariant some p i ≡ false
-
-  pub some_start : (n : ℕ) → (0 ≤ n) × (some p 0 ≡ false)
-  unfolding some
-  some_start n = (omega arith, refl)
-
-  pub some_stop : (n i : ℕ) (r : Bool) → i < n → r ≡ p i → r ≡ true → true ≡ some p n
-  some_stop n i r h e q = sym (some_of n i h (sym e ∙ q))
-
-  pub some_turn : (i : ℕ) (r : Bool) → some p i ≡ false → r ≡ p i → r ≡ false → some p (i + 1) ≡ false
-  unfolding some
-  some_turn i r h e q = rw (add-one, h, ← e, q)
-
-  pub some_end : (n i : ℕ) → i ≤ n → n ≤ i → some p i ≡ false → false ≡ some p n
-  some_end n i h k e = sym e ∙ ap (some p) (le_antisymm h k)
-
-pub ruleset finds = (some_start, some_stop, some_turn, some_end)

@@ -1,6 +1,8 @@
 -- Folds over the numbers below n, one for each kind of loop, and a list written to the front of a lent buffer.
 -- Assumes nothing.
-use Rattle.std.specs.Prelude.{Bool, true, false, List, [], ◌∷◌, ◌++◌, ℕ, zero, suc, ◌+◌, length, drop}
+use Rattle.std.specs.declared.option.Option.{Option}
+use Rattle.std.specs.Option.{MatchOption}
+use Rattle.std.specs.Prelude.{◌≡◌, ◌<◌, Bool, true, false, List, [], ◌∷◌, ◌++◌, ℕ, zero, suc, ◌+◌, length, drop}
 
 -- a where the test holds, else b
 abbrev pub pick : {A : Type 0} → Bool → A → A → A
@@ -44,6 +46,10 @@ total f (suc n) = total f n + f n
 unfoldable pub first : (ℕ → Bool) → ℕ → ℕ
 first p zero = zero
 first p (suc n) = pick (p zero) zero (suc (first (λ i. p (suc i)) n))
+
+-- o is the lowest number below n that has p, or None where there is none
+abbrev pub Finds : (ℕ → Bool) → ℕ → Option ℕ → Type 0
+Finds p n o = MatchOption o (first p n ≡ n) (λ i. (i < n) × (i ≡ first p n))
 
 -- the rows g i, for each i below n that has p, in rising order
 unfoldable pub joined : (ℕ → Bool) → (ℕ → List ℕ) → ℕ → List ℕ

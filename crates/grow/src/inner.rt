@@ -4,88 +4,62 @@ ghost use Rattle.folds.specs.Fold.{every};
 ghost use Rattle.grow.specs.Grow.{with_test, filled, with_fault, with_response, differs};
 
 use table::Table;
+use table::inner::{cell, place};
 
-pub fn with_test(table: Table, output: u8) -> Table
-    requires { table.tests < 24 }
-    ensures { result ≡ with_test table output }
+#[tactic(auto, using(table::proofs::Cells::place_below))]
+pub fn add_test(table: &mut Table, output: u8)
+    requires { table.old.tests < 24 }
+    ensures { table.new ≡ with_test table.old output }
 {
-    let tests = table.tests;
-    let at = table::inner::place(tests, 0);
-    let mut next = table;
-    next.cells[at] = output;
-    next.tests = tests + 1;
-    next
+    table.cells[place(table.tests, 0)] = output;
+    table.tests += 1;
 }
 
 // The cells with the correct outputs of the tests in a column.
+#[tactic(auto, unfolding(crate::specs::Grow::filled), using(table::proofs::Cells::place_below))]
 fn filled(cells: [u8; 1464], column: usize, tests: usize) -> [u8; 1464]
     requires { (column < 61) × (tests ≤ 24) }
     ensures { result ≡ filled cells column tests }
 {
     let mut next = cells;
-    let mut t = 0;
-    while t < tests {
-        let correct = table::inner::cell(&cells, t, 0);
-        let at = table::inner::place(t, column);
-        next[at] = correct;
-        t += 1;
+    for t in 0..tests {
+        next[place(t, column)] = cell(&cells, t, 0);
     }
     next
 }
 
-pub fn with_fault(table: Table, line: u8, stuck: u8) -> Table
-    requires { (table.tests ≤ 24) × (table.faults < 60) }
-    ensures { result ≡ with_fault table line stuck }
+pub fn add_fault(table: &mut Table, line: u8, stuck: u8)
+    requires { (table.old.tests ≤ 24) × (table.old.faults < 60) }
+    ensures { table.new ≡ with_fault table.old line stuck }
 {
     let f = table.faults;
-    let before = table.cells;
-    let cells = filled(before, f + 1, table.tests);
-    let mut next = table;
-    next.cells = cells;
-    next.lines[f] = line;
-    next.stuck[f] = stuck;
-    next.faults = f + 1;
-    next
+    table.cells = filled(table.cells, f + 1, table.tests);
+    table.lines[f] = line;
+    table.stuck[f] = stuck;
+    table.faults += 1;
 }
 
-pub fn with_response(table: Table, test: usize, fault: usize, output: u8) -> Table
+#[tactic(auto, using(table::proofs::Cells::place_below))]
+pub fn add_response(table: &mut Table, test: usize, fault: usize, output: u8)
     requires { (test < 24) × (fault < 60) }
-    ensures { result ≡ with_response table test fault output }
+    ensures { table.new ≡ with_response table.old test fault output }
 {
-    let at = table::inner::place(test, fault + 1);
-    let mut next = table;
-    next.cells[at] = output;
-    next
+    table.cells[place(test, fault + 1)] = output;
 }
 
 // Whether fault f has another line or another stuck value.
-fn differs<'a>(lines: &'a [u8; 60], stuck: &'a [u8; 60], line: u8, value: u8, f: usize) -> bool
+#[tactic(auto, unfolding(crate::specs::Grow::differs))]
+fn differs(table: &Table, line: u8, value: u8, f: usize) -> bool
     requires { f < 60 }
-    ensures { result ≡ differs lines.now stuck.now line value f }
+    ensures { result ≡ differs table.now.lines table.now.stuck line value f }
 {
-    if lines[f] != line {
-        return true;
-    }
-    stuck[f] != value
+    table.label(f) != (line, value)
 }
 
 // Whether no fault so far has the line and the stuck value.
-pub fn is_new<'a>(
-    lines: &'a [u8; 60],
-    stuck: &'a [u8; 60],
-    faults: usize,
-    line: u8,
-    value: u8,
-) -> bool
-    requires { faults ≤ 60 }
-    ensures { result ≡ every (differs lines.now stuck.now line value) faults }
+pub fn is_new(table: &Table, line: u8, value: u8) -> bool
+    requires { table.now.faults ≤ 60 }
+    ensures { result ≡ every (differs table.now.lines table.now.stuck line value) table.now.faults }
 {
-    let mut f = 0;
-    while f < faults {
-        if !differs(lines, stuck, line, value, f) {
-            return false;
-        }
-        f += 1;
-    }
-    true
+    (0..table.faults).all(|f| differs(table, line, value, f))
 }

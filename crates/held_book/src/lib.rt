@@ -2,12 +2,12 @@
 #![tactic(auto)]
 
 ghost use Rattle.std.specs.Prelude.{◌≡◌};
-ghost use Rattle.book.specs.Reading.{reading_of, read_book};
+ghost use Rattle.book.specs.Reading.{read_book};
 ghost use Rattle.book.specs.Sound.{record_at};
 ghost use Rattle.held_book.specs.Held.{Keeps};
 
-use records::{Outcome, SoFar, Stepped};
-use table::{Reading, Verdict};
+use records::{SoFar, Stepped};
+use table::Reading;
 
 #[derive(Clone, Copy)]
 pub struct Reader<'a> {
@@ -46,36 +46,10 @@ pub fn step_held(book: &[u8], place: usize, sofar: SoFar) -> Stepped
     next(moved(hold(book), place), sofar)
 }
 
-// What a last step gives as the reading.
-fn stopped(verdict: Verdict, got: Stepped) -> Reading
-    ensures { result ≡ reading_of verdict got }
-{
-    let sofar = got.sofar;
-    let table = sofar.table;
-    Reading {
-        verdict,
-        place: got.place,
-        table,
-    }
-}
-
 // The reading of a whole book, record by record.
+#[tactic(auto, using(crate::proofs::Onwards::as_step))]
 pub fn read_held(book: &[u8]) -> Reading
     ensures { result ≡ read_book book.now }
 {
-    let mut place = 0;
-    let mut sofar = book::begin();
-    loop {
-        let got = step_held(book, place, sofar);
-        let outcome = got.outcome;
-        let after = got.sofar;
-        match outcome {
-            Outcome::Given(_) => {
-                place = got.place;
-                sofar = after;
-            }
-            Outcome::Accepted => return stopped(Verdict::Accepted, got),
-            Outcome::Refused(why) => return stopped(Verdict::Refused(why), got),
-        }
-    }
+    book::inner::read_by(book, |at| step_held(at.book, at.place, at.sofar))
 }

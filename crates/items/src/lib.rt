@@ -1,4 +1,4 @@
-// The items of a line, written one after the other into a lent buffer.
+// The items of a line, written one after the other on a page.
 #![tactic(auto)]
 
 pub mod inner;

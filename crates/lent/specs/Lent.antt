@@ -1,12 +1,12 @@
 -- Calls that write their answer to the front of a lent buffer. The sentences are document 01's.
 -- Assumes nothing.
-use Rattle.std.specs.Prelude.{List, ◌≡◌, ℕ, eqb, leb, length}
+use Rattle.std.specs.Prelude.{List, ◌≡◌, ℕ, eqb, leb, length, Result}
 use Rattle.folds.specs.Fold.{pick, onto}
 use Rattle.sets.specs.Sets.{within}
-use Rattle.table.specs.Answers.{written_number, written_count}
+use Rattle.table.specs.Answers.{answer_number, answer_value}
 use Rattle.table.specs.Test.{well_formed}
+use Rattle.table.specs.declared.Refusal.{Refusal}
 use Rattle.table.specs.declared.Table.{Table}
-use Rattle.table.specs.declared.Written.{Written}
 
 -- of an accepted call a, of a refused one b
 abbrev pub accept : {A : Type 0} → ℕ → A → A → A
@@ -22,9 +22,9 @@ room_number earlier answer entry = accept earlier (pick (leb (length answer) (le
 
 -- what the call answers, and what it leaves of a buffer that held `entry`; `earlier` is the number by which it is refused
 -- before the buffer is looked at, or 0
-pub record WritesOnto (earlier : ℕ) (answer entry : List ℕ) (r : Written) (exit : List ℕ) : Type 0 where
-  pub number : written_number r ≡ room_number earlier answer entry
+pub record WritesOnto (earlier : ℕ) (answer entry : List ℕ) (r : Result ℕ Refusal) (exit : List ℕ) : Type 0 where
+  pub number : answer_number r ≡ room_number earlier answer entry
   -- "A refused call returns the number with the empty set, list or count 0, and its buffers keep their bytes."
-  pub count : written_count r ≡ accept (written_number r) (length answer) 0
+  pub count : answer_value r ≡ accept (answer_number r) (length answer) 0
   -- "A longer buffer is no refusal: bytes past the answer stay."
-  pub buffer : exit ≡ accept (written_number r) (onto answer entry) entry
+  pub buffer : exit ≡ accept (answer_number r) (onto answer entry) entry

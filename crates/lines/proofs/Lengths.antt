@@ -6,15 +6,16 @@ use native.Mathlib.Omega.{arith}
 use lib.ListN.{length, length-append}
 use Rattle.table.proofs.Stored.{cell_byte}
 use Rattle.classes.proofs.Meaning.{count_given}
-use Rattle.classes.specs.Classes.{classes_of}
+use Rattle.classes.specs.Classes.{answer_classes, classes_of}
 use Rattle.folds.specs.Fold.{always, first}
 use Rattle.folds.proofs.Lengths.{length_of, rows_total, total_most}
 use Rattle.items.proofs.Lengths.{members_length, members_most, signature_most, spaced_most, tests_most}
 use Rattle.items.specs.Items.{in_class}
 use Rattle.lines.specs.Text.{aside_word, class_head, class_line, class_lines, class_tail, detect_word, diagnose_word, essential_word, refused_text, set_line, set_lines, sizes_line, table_text}
-use Rattle.table.proofs.Formed.{tested}
+use Rattle.table.proofs.Tested.{tested}
 use Rattle.table.specs.Table.{columns, output_at}
 use Rattle.table.specs.WellFormed.{OfType, WellFormed}
+use Rattle.table.specs.declared.Classes.{Classes}
 use Rattle.table.specs.declared.Table.{Table}
 use Rattle.terms_laws.proofs.Classes.{few_classes}
 
@@ -65,16 +66,19 @@ module _ (tb : Table) (w : WellFormed tb) (o : OfType tb) where
     spaced_most 1 n (omega arith),
   ))
 
-  few : (classes_of tb).count ≤ 61
+  abbrev classes : Classes
+  classes = answer_classes (classes_of tb)
+
+  few : classes.count ≤ 61
   few = omega (arith, count_given tb (tested tb w) (classes_of tb) refl, few_classes tb w)
 
   pub table_most : (aside essential detect diagnose : ℕ) → length (table_text tb aside essential detect diagnose) ≤ longest
   unfolding table_text
   table_most aside essential detect diagnose = simp length-append (omega (
     arith,
-    sizes_most (classes_of tb).count few,
+    sizes_most classes.count few,
     sets_most aside essential detect diagnose,
-    classes_most (classes_of tb).of diagnose (classes_of tb).count few,
+    classes_most classes.of diagnose classes.count few,
   ))
 
 -- ---- a refused book

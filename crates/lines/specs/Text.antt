@@ -1,7 +1,7 @@
 -- The text that pick prints, as bytes. The sentences are document 01's.
 -- Assumes nothing.
 use Rattle.std.specs.Prelude.{List, [], ◌∷◌, ◌++◌, ℕ, ◌<◌}
-use Rattle.classes.specs.Classes.{classes_of}
+use Rattle.classes.specs.Classes.{answer_classes, classes_of}
 use Rattle.folds.specs.Fold.{always, first, joined}
 use Rattle.items.specs.Items.{in_class, members_text, signature_text, spaced, tests_text}
 use Rattle.table.specs.Table.{output_at, columns}
@@ -96,9 +96,10 @@ set_lines tests aside essential detect diagnose =
 -- the text of a table with its set-aside and essential tests and its two choices
 unfoldable pub table_text : Table → ℕ → ℕ → ℕ → ℕ → List ℕ
 table_text tb aside essential detect diagnose =
-    sizes_line tb.tests tb.faults (classes_of tb).count
+    let classes = answer_classes (classes_of tb) in
+    sizes_line tb.tests tb.faults classes.count
     ++ (set_lines tb.tests aside essential detect diagnose
-    ++ class_lines tb (classes_of tb).of diagnose (classes_of tb).count)
+    ++ class_lines tb classes.of diagnose classes.count)
 
 -- "A refused book prints one line, "refused 8 at 0", number and place."
 unfoldable pub refused_text : ℕ → ℕ → List ℕ

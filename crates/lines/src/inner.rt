@@ -2,43 +2,59 @@
 ghost use Rattle.std.specs.Prelude.{◌≤◌, ◌<◌, ◌≡◌};
 ghost use Rattle.folds.specs.Fold.{first};
 ghost use Rattle.items.specs.Items.{in_class};
-ghost use Rattle.lines.specs.Text.{Numbered, class_head, class_line, class_lines, class_tail, refused_text, set_line, set_lines, sizes_line, table_text};
+ghost use Rattle.lines.specs.Text.{Numbered, class_line, class_lines, newline, refused_text, set_line, set_lines, sizes_line, table_text};
 ghost use Rattle.table.specs.Table.{columns};
 ghost use Rattle.table.specs.WellFormed.{WellFormed};
-ghost use Rattle.text.specs.Text.{Writes};
+ghost use Rattle.text.specs.Text.{Adds};
 
-use table::Table;
+use items::inner::spaced;
+use table::{Classes, Fitting};
+use text::Page;
 
-pub fn refused(buf: &mut [u8], at: usize, number: usize, place: usize) -> usize
-    ensures { Writes at (refused_text number place) buf.old result buf.new }
-{
-    let a = text::inner::word(buf, at, b"refused");
-    let b = items::inner::spaced(buf, a, number);
-    let c = text::inner::word(buf, b, b" at");
-    let d = items::inner::spaced(buf, c, place);
-    text::inner::put(buf, d, b'\n')
+// The sets of tests that the text of a table lists.
+#[derive(Clone, Copy)]
+pub struct Sets {
+    pub aside: u32,
+    pub essential: u32,
+    pub detect: u32,
+    pub diagnose: u32,
 }
 
-fn sizes(buf: &mut [u8], at: usize, tests: usize, faults: usize, classes: usize) -> usize
-    ensures { Writes at (sizes_line tests faults classes) buf.old result buf.new }
+fn end(page: &mut Page)
+    ensures { Adds newline page.old page.new }
 {
-    let a = text::inner::word(buf, at, b"tests");
-    let b = items::inner::spaced(buf, a, tests);
-    let c = text::inner::word(buf, b, b" faults");
-    let d = items::inner::spaced(buf, c, faults);
-    let e = text::inner::word(buf, d, b" classes");
-    let f = items::inner::spaced(buf, e, classes);
-    text::inner::put(buf, f, b'\n')
+    page.put(b'\n');
+}
+
+pub fn refused(page: &mut Page, number: usize, place: usize)
+    ensures { Adds (refused_text number place) page.old page.new }
+{
+    page.word(b"refused");
+    spaced(page, number);
+    page.word(b" at");
+    spaced(page, place);
+    end(page);
+}
+
+fn sizes(page: &mut Page, tests: usize, faults: usize, classes: usize)
+    ensures { Adds (sizes_line tests faults classes) page.old page.new }
+{
+    page.word(b"tests");
+    spaced(page, tests);
+    page.word(b" faults");
+    spaced(page, faults);
+    page.word(b" classes");
+    spaced(page, classes);
+    end(page);
 }
 
 // A word and the tests of a set.
-fn set<'a>(buf: &mut [u8], at: usize, word: &'a [u8], set: u32, tests: usize) -> usize
-    requires { tests ≤ 24 }
-    ensures { Writes at (set_line word.now set tests) buf.old result buf.new }
+fn set(page: &mut Page, table: &Fitting, word: &[u8], set: u32)
+    ensures { Adds (set_line word.now set table.now.table.tests) page.old page.new }
 {
-    let a = text::inner::word(buf, at, word);
-    let b = items::inner::tests(buf, a, set, tests);
-    text::inner::put(buf, b, b'\n')
+    page.word(word);
+    items::inner::tests(page, table, set);
+    end(page);
 }
 
 // The lowest column of class k, and the number of columns where it has none.
@@ -46,92 +62,51 @@ fn lowest_in(of: &[u8; 61], columns: usize, k: usize) -> usize
     requires { columns ≤ 61 }
     ensures { result ≡ first (in_class of.now k) columns }
 {
-    let mut i = 0;
-    while i < columns {
-        if items::inner::in_class(of, k, i) {
-            return i;
-        }
-        i += 1;
-    }
-    columns
-}
-
-fn class_head(buf: &mut [u8], at: usize, k: usize) -> usize
-    ensures { Writes at (class_head k) buf.old result buf.new }
-{
-    let a = text::inner::word(buf, at, b"class");
-    let b = items::inner::spaced(buf, a, k);
-    text::inner::word(buf, b, b" :")
-}
-
-fn class_tail(buf: &mut [u8], at: usize, table: Table, of: [u8; 61], k: usize) -> usize
-    requires { table.faults ≤ 60 }
-    ensures { Writes at (class_tail table of k) buf.old result buf.new }
-{
-    let columns = table.faults + 1;
-    let a = text::inner::word(buf, at, b" :");
-    let b = items::inner::members(buf, a, &table.lines, &table.stuck, &of, columns, k);
-    text::inner::put(buf, b, b'\n')
+    (0..columns)
+        .find(|c| items::inner::in_class(of, k, *c))
+        .unwrap_or(columns)
 }
 
 // Class k: its signature under a set, and its members.
-fn class(buf: &mut [u8], at: usize, table: Table, of: [u8; 61], set: u32, k: usize) -> usize
-    requires { (table.tests ≤ 24) × (table.faults ≤ 60) × (first (in_class of k) (columns table) < columns table) }
-    ensures { Writes at (class_line table of set k) buf.old result buf.new }
+fn class(page: &mut Page, table: &Fitting, of: &[u8; 61], set: u32, k: usize)
+    requires { first (in_class of.now k) (columns table.now.table) < columns table.now.table }
+    ensures { Adds (class_line table.now.table of.now set k) page.old page.new }
 {
-    let tests = table.tests;
-    let lowest = lowest_in(&of, table.faults + 1, k);
-    let a = class_head(buf, at, k);
-    let b = items::inner::signature(buf, a, &table.cells, tests, set, lowest);
-    class_tail(buf, b, table, of, k)
+    let lowest = lowest_in(of, table.columns(), k);
+    page.word(b"class");
+    spaced(page, k);
+    page.word(b" :");
+    items::inner::signature(page, table, set, lowest);
+    page.word(b" :");
+    items::inner::members(page, table, of, k);
+    end(page);
 }
 
-fn classes(buf: &mut [u8], at: usize, table: Table, of: [u8; 61], count: usize, set: u32) -> usize
-    requires { (table.tests ≤ 24) × (table.faults ≤ 60) × Numbered table of count }
-    ensures { Writes at (class_lines table of set count) buf.old result buf.new }
+fn classes(page: &mut Page, table: &Fitting, classed: &Classes, set: u32)
+    requires { Numbered table.now.table classed.now.of classed.now.count }
+    ensures { Adds (class_lines table.now.table classed.now.of set classed.now.count) page.old page.new }
 {
-    let mut next = at;
-    let mut i = 0;
-    while i < count {
-        next = class(buf, next, table, of, set, i);
-        i += 1;
+    for k in 0..classed.count {
+        class(page, table, &classed.of, set, k);
     }
-    next
 }
 
-fn sets(
-    buf: &mut [u8],
-    at: usize,
-    tests: usize,
-    aside: u32,
-    essential: u32,
-    detect: u32,
-    diagnose: u32,
-) -> usize
-    requires { tests ≤ 24 }
-    ensures { Writes at (set_lines tests aside essential detect diagnose) buf.old result buf.new }
+fn four_sets(page: &mut Page, table: &Fitting, sets: Sets)
+    ensures { Adds (set_lines table.now.table.tests sets.aside sets.essential sets.detect sets.diagnose) page.old page.new }
 {
-    let a = set(buf, at, b"aside", aside, tests);
-    let b = set(buf, a, b"essential", essential, tests);
-    let c = set(buf, b, b"detect", detect, tests);
-    set(buf, c, b"diagnose", diagnose, tests)
+    set(page, table, b"aside", sets.aside);
+    set(page, table, b"essential", sets.essential);
+    set(page, table, b"detect", sets.detect);
+    set(page, table, b"diagnose", sets.diagnose);
 }
 
 // The whole text of a well-formed table.
-pub fn table(
-    buf: &mut [u8],
-    table: Table,
-    aside: u32,
-    essential: u32,
-    detect: u32,
-    diagnose: u32,
-) -> usize
-    requires { WellFormed table }
-    ensures { Writes 0 (table_text table aside essential detect diagnose) buf.old result buf.new }
+pub fn table(page: &mut Page, table: &Fitting, sets: Sets)
+    requires { WellFormed table.now.table }
+    ensures { Adds (table_text table.now.table sets.aside sets.essential sets.detect sets.diagnose) page.old page.new }
 {
-    let classed = classes::classify(table);
-    let of = classed.of;
-    let a = sizes(buf, 0, table.tests, table.faults, classed.count);
-    let b = sets(buf, a, table.tests, aside, essential, detect, diagnose);
-    classes(buf, b, table, of, classed.count, diagnose)
+    let classed = classes::inner::numbered(table);
+    sizes(page, table.tests(), table.table.faults, classed.count);
+    four_sets(page, table, sets);
+    classes(page, table, &classed, sets.diagnose);
 }

@@ -1,4 +1,4 @@
-// The lines of the text that pick prints, written one after the other into a lent buffer.
+// The lines of the text that pick prints, written one after the other on a page.
 #![tactic(auto)]
 
 pub mod inner;

@@ -9,12 +9,12 @@ use Rattle.folds.proofs.Onto.{onto_length}
 use Rattle.lent.specs.Lent.{WritesOnto}
 use Rattle.lent.proofs.Lent.{room_had}
 use Rattle.report.specs.Answer.{ReportIs}
-use Rattle.table.specs.declared.Written.{Written}
-use Rattle.table.specs.declared.Written.TheVariants.{Bytes}
+use Rattle.table.specs.declared.Refusal.{Refusal}
+use Rattle.std.specs.Prelude.{Result, Ok}
 
-pub printed : (book entry : List ℕ) (r : Written) (n : ℕ) (exit : List ℕ) → r ≡ Bytes n → ReportIs book entry r exit → n ≤ length exit
+pub printed : (book entry : List ℕ) (r : Result ℕ Refusal) (n : ℕ) (exit : List ℕ) → r ≡ Ok n → ReportIs book entry r exit → n ≤ length exit
 printed book entry r n exit e p =
-    let w : WritesOnto 0 p.text entry (Bytes n) exit = rw e at p.written in
+    let w : WritesOnto 0 p.text entry (Ok n) exit = rw e at p.written in
     let l = room_had p.text entry w.number in
     omega (arith, w.count, ap length w.buffer, onto_length p.text entry l)
 

@@ -11,7 +11,7 @@ use lib.ListN.{length, get_or}
 use Rattle.folds.specs.Fold.{pick, either}
 use Rattle.table.specs.declared.Refusal.{Refusal}
 use Rattle.table.specs.declared.Refusal.TheVariants.{UnknownKind}
-use Rattle.records.specs.declared.Outcome.TheVariants.{Given}
+use Rattle.std.specs.Prelude.{Ok, Some}
 use Rattle.records.specs.declared.Record.{Record}
 use Rattle.records.specs.declared.SoFar.{SoFar}
 use Rattle.records.specs.declared.Stepped.{Stepped}
@@ -95,7 +95,7 @@ gives_goes c (fault h k) = record { further = omega arith; inside = omega (arith
 gives_goes c (response h k) = record { further = omega arith; inside = omega (arith, ltb-false); counts = record { tests = c.tests; faults = c.faults } }
 gives_goes c (ending h k) = record { further = omega arith; inside = omega (arith, ltb-false); counts = record { tests = c.tests; faults = c.faults } }
 
-pub goes : {book : List ℕ} {place : ℕ} {sofar : SoFar} {s : Stepped} → CountsFit sofar → Steps book place sofar s → (r : Record) → s.outcome ≡ Given r → Goes book place s
-goes c (refuses why) r e = let z : ◌≡◌ {A = ℕ} 0 1 = cc in absurd (omega arith)
-goes c (accepts h u) r e = let z : ◌≡◌ {A = ℕ} 0 1 = cc in absurd (omega arith)
+pub goes : {book : List ℕ} {place : ℕ} {sofar : SoFar} {s : Stepped} → CountsFit sofar → Steps book place sofar s → (r : Record) → s.outcome ≡ Ok (Some r) → Goes book place s
+goes c (refuses why) r e = cc
+goes c (accepts h u) r e = cc
 goes c (gives h u g) r e = gives_goes c g

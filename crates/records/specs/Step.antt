@@ -1,14 +1,13 @@
 -- What the record at a place gives, or why it is refused: the refusals of each kind stand as a list, in document 01's order.
 -- The sentences are document 01's.
 -- Assumes nothing.
-use Rattle.std.specs.Prelude.{Bool, true, false, not, List, [], ◌∷◌, ℕ, ◌+◌, ◌≤◌, ltb, leb, eqb, length, get_or}
+use Rattle.std.specs.Prelude.{Bool, true, false, not, List, [], ◌∷◌, ◌≡◌, ℕ, ◌+◌, ◌≤◌, ◌<◌, ltb, leb, eqb, length, get_or, take, drop, Result, Ok, Err, Some, None, MatchResult}
 use Rattle.folds.specs.Fold.{pick, both, either, every}
 use Rattle.table.specs.Table.{empty_table, output_at}
 use Rattle.table.specs.declared.Refusal.{Refusal}
 use Rattle.table.specs.declared.Refusal.TheVariants.{UnknownKind, BodyCut, NoEnd, OutOfPlace, TooMany, StuckValue, SameLabel, NotInBook, NotAfter, RepeatsCorrect, WrongCounts, BytesFollow}
 use Rattle.table.specs.declared.Table.{Table}
 use Rattle.grow.specs.Grow.{with_test, with_fault, with_response, differs}
-use Rattle.records.specs.declared.Outcome.TheVariants.{Given, Accepted, Refused}
 use Rattle.records.specs.declared.Record.{Record}
 use Rattle.records.specs.declared.Record.TheVariants.{Test, Fault, Response, End}
 use Rattle.records.specs.declared.SoFar.{SoFar}
@@ -29,14 +28,14 @@ start = record { table = empty_table; stage = Tests }
 
 -- "It returns the number, the place of that record's first byte, and the empty table."
 abbrev pub refused_at : Refusal → ℕ → Stepped
-refused_at why place = record { outcome = Refused why; place = place; sofar = start }
+refused_at why place = record { outcome = Err why; place = place; sofar = start }
 
 abbrev pub accepted_at : ℕ → SoFar → Stepped
-accepted_at place sofar = record { outcome = Accepted; place = place; sofar = sofar }
+accepted_at place sofar = record { outcome = Ok None; place = place; sofar = sofar }
 
 -- a record, the next place, and the table and the stage then
 abbrev pub given_at : Record → ℕ → Table → Stage → Stepped
-given_at r next tb stage = record { outcome = Given r; place = next; sofar = record { table = tb; stage = stage } }
+given_at r next tb stage = record { outcome = Ok (Some r); place = next; sofar = record { table = tb; stage = stage } }
 
 -- "All tests come first, then faults, then responses, then one end"
 abbrev pub rank_of : Stage → ℕ
@@ -80,6 +79,20 @@ first_of (k ∷ ks) place gives = pick k.holds (refused_at k.why place) (first_o
 
 abbrev pub judged : Rule → ℕ → Stepped
 judged r place = first_of r.checks place r.gives
+
+-- the same before the place is known: the refusal, or what is given
+unfoldable pub checked : List Check → Stepped → Result Stepped Refusal
+checked [] gives = Ok gives
+checked (k ∷ ks) gives = pick k.holds (Err k.why) (checked ks gives)
+
+abbrev pub tried : Rule → Result Stepped Refusal
+tried r = checked r.checks r.gives
+
+-- the n bytes behind the kind byte at a place, or that the body is cut short
+abbrev pub BodyOf : List ℕ → ℕ → ℕ → Result (List ℕ) Refusal → Type 0
+BodyOf book place n r = MatchResult r
+    (λ body. (place + (n + 1) ≤ length book) × (body ≡ take n (drop (place + 1) book)))
+    (λ why. (length book < place + (n + 1)) × (why ≡ BodyCut))
 
 module _ (book : List ℕ) (place : ℕ) (sofar : SoFar) where
   abbrev tb : Table

@@ -1,58 +1,49 @@
 // The text that pick prints.
 #![tactic(auto)]
 
-ghost use Rattle.std.specs.Prelude.{◌≡◌};
+ghost use Rattle.std.specs.Prelude.{[], ◌≡◌};
 ghost use Rattle.report.specs.Answer.{IsTableText, IsText, Paged, ReportIs};
-ghost use Rattle.table.specs.Answers.{chosen_set};
 ghost use Rattle.table.specs.WellFormed.{WellFormed};
 
-use table::{Chosen, Goal, Refusal, Table, Verdict, Written};
+use lines::inner::Sets;
+use table::{Fitting, Goal, Refusal, Table};
+use text::Page;
 
-// The tests of an answer, and none of a refusal.
-fn set_of(answer: Chosen) -> u32
-    ensures { result ≡ chosen_set answer }
-{
-    match answer {
-        Chosen::Tests(set) => set,
-        Chosen::Refused(_) => 0,
-    }
-}
-
-// Writes the text of a well-formed table.
-fn table_page(page: &mut [u8], table: Table) -> usize
+// The text of a table that the reader gave.
+fn table_page(page: &mut Page, table: Table)
     requires { WellFormed table }
-    ensures { Paged (IsTableText table) page.old result page.new }
+    ensures { Paged (IsTableText table) page.old page.new }
 {
-    let aside = set_of(cover::set_aside(table, Goal::Diagnose));
-    let essential = set_of(cover::essential(table, Goal::Diagnose));
-    let detect = set_of(choice::choose(table, Goal::Detect, 24));
-    let diagnose = set_of(choice::choose(table, Goal::Diagnose, 24));
-    lines::inner::table(page, table, aside, essential, detect, diagnose)
+    let fitting = Fitting { table };
+    let sets = Sets {
+        aside: cover::set_aside(table, Goal::Diagnose).unwrap_or(0),
+        essential: cover::essential(table, Goal::Diagnose).unwrap_or(0),
+        detect: choice::choose(table, Goal::Detect, 24).unwrap_or(0),
+        diagnose: choice::choose(table, Goal::Diagnose, 24).unwrap_or(0),
+    };
+    lines::inner::table(page, &fitting, sets);
 }
 
-// Writes the text of a book.
-fn page_of(book: &[u8], page: &mut [u8]) -> usize
-    ensures { Paged (IsText book.now) page.old result page.new }
+// The text of a book.
+fn page_of(book: &[u8]) -> Page
+    ensures { Paged (IsText book.now) [] result }
 {
     let reading = book::read_book(book);
-    let verdict = reading.verdict;
-    match verdict {
-        Verdict::Accepted => table_page(page, reading.table),
-        Verdict::Refused(why) => {
-            let number = items::inner::wide(table::number(why));
-            lines::inner::refused(page, 0, number, reading.place)
+    let mut page = Page::new();
+    match reading.verdict {
+        Ok(()) => table_page(&mut page, reading.table),
+        Err(why) => {
+            let number = usize::from(table::number(why));
+            lines::inner::refused(&mut page, number, reading.place);
         }
     }
+    page
 }
 
 // Writes the text of a book to a lent buffer. No text is longer than 7,364 bytes.
-pub fn report(book: &[u8], buf: &mut [u8]) -> Written
+pub fn report(book: &[u8], buf: &mut [u8]) -> Result<usize, Refusal>
     ensures { ReportIs book.now buf.old result buf.new }
 {
-    let mut page = [0; 7364];
-    let size = page_of(book, &mut page);
-    if buf.len() < size {
-        return Written::Refused(Refusal::BufferShort);
-    }
-    Written::Bytes(text::inner::word(buf, 0, &page[..size]))
+    let page = page_of(book);
+    lent::inner::laid(page.written(), buf)
 }

@@ -1,13 +1,13 @@
--- Laws of `set_of`, the set of the numbers that have p, and the facts of the loops that make it. Assumes nothing.
+-- Laws of `set_of`, the set of the numbers that have p, and the facts of the loop that makes it. Assumes nothing.
 use mathlib.Core.Bool.{Bool, true, false, not}
 use mathlib.Core.Logic.{⊎_elim}
 use mathlib.Core.Path.{◌≡◌, refl, sym, ap, ◌∙◌}
 use Prim.Native.Nat.{ℕ, zero, suc, ◌+◌, ◌*◌, ◌%◌, ◌^◌, ◌≤◌, ◌<◌}
-use native.Mathlib.Nat.{le_antisymm, add-zero, lt_of_lt_of_le, one-mul, mod-eq_of_lt, pow-suc}
+use native.Mathlib.Nat.{add-zero, one-mul, mod-eq_of_lt, pow-suc}
 use native.Mathlib.Numerals.{add-one}
 use native.Mathlib.Omega.{arith}
 use lib.Dec.{eqb}
-use lib.Pow.{pow-lt, pow_mono}
+use lib.Pow.{pow-lt}
 use Rattle.folds.specs.Fold.{pick}
 use Rattle.folds.proofs.Below.{below_cases}
 use Rattle.sets.specs.Sets.{bit, has}
@@ -41,9 +41,12 @@ module _ (s t : ℕ) (h : s < 2 ^ t) where
 pub one_shl : (k t : ℕ) → t < k → 1 * 2 ^ t % 2 ^ k ≡ 2 ^ t
 one_shl k t h = ap (λ (x : ℕ). x % 2 ^ k) (one-mul (2 ^ t)) ∙ mod-eq_of_lt (pow-lt h)
 
--- the set with it added has room
-pub top_fits : (k s t : ℕ) → t < k → s < 2 ^ t → s + 2 ^ t < 2 ^ k
-top_fits k s t h l = lt_of_lt_of_le (top_lt s t l) (pow_mono h)
+-- the set with it added is below the next power
+pub up_lt : (k t s s' : ℕ) → t < k → s < 2 ^ t → s' ≡ s + 1 * 2 ^ t % 2 ^ k → s' < 2 ^ (t + 1)
+up_lt k t s s' h l e = rw (add-one, e, one_shl k t h) (top_lt s t l)
+
+pub on_lt : (t s s' : ℕ) → s < 2 ^ t → s' ≡ s → s' < 2 ^ (t + 1)
+on_lt t s s' l e = rw add-one (omega (arith, pow-suc 2 t))
 
 -- ---- the set of the numbers that have p
 
@@ -102,7 +105,7 @@ module _ (p : ℕ → Bool) where
       go true e = omega (arith, pow-suc 2 n)
       go false e = omega (arith, pow-suc 2 n)
 
-  -- ---- a loop `while i < n { set = with_test(set, i, test(i)); i += 1; } set`, with the invariant set ≡ set_of p i
+  -- ---- the loop `for i in 0..n { if test(i) { set += 1 << i; } }`, with the invariant set ≡ set_of p i
 
   pub set_start : 0 ≡ set_of p 0
   unfolding set_of
@@ -112,23 +115,12 @@ module _ (p : ℕ → Bool) where
   unfolding set_of
   set_turn i s s' r e q h = rw add-one (h ∙ ap (λ (x : ℕ). with_test x i r) e ∙ ap (with_test (set_of p i) i) q)
 
-  pub set_end : (n i s : ℕ) → i ≤ n → n ≤ i → s ≡ set_of p i → s ≡ set_of p n
-  set_end n i s h k e = e ∙ ap (set_of p) (le_antisymm h k)
-
-  pub set_room : (i s : ℕ) → s ≡ set_of p i → s < 2 ^ i
-  set_room i s e = rw e (set_lt i)
-
   -- the set stays as it is where test(i) fails
   pub set_on : (i s s' : ℕ) (r : Bool) → s ≡ set_of p i → r ≡ p i → r ≡ false → s' ≡ s → s' ≡ set_of p (i + 1)
   set_on i s s' r e q t g = set_turn i s s' r e q (g ∙ rw (t, with_out))
 
--- ---- a loop `while i < n { if test(i) { set += 1 << i; } i += 1; } set`, in a number of k bits
+-- the set takes test i in, in a number of k bits
 
 module _ (k : ℕ) (p : ℕ → Bool) (i s : ℕ) (w : i < k) (e : s ≡ set_of p i) where
-  pub set_fits : s + 1 * 2 ^ i % 2 ^ k < 2 ^ k
-  set_fits = rw (one_shl k i w) (top_fits k s i w (set_room p i s e))
-
   pub set_up : (s' : ℕ) (r : Bool) → r ≡ p i → r ≡ true → s' ≡ s + 1 * 2 ^ i % 2 ^ k → s' ≡ set_of p (i + 1)
   set_up s' r q t g = set_turn p i s s' r e q (g ∙ rw (one_shl k i w, t, with_in))
-
-pub ruleset collects = (set_start, set_turn, set_end, set_room, set_on)

@@ -1,4 +1,4 @@
-// Sets of tests as numbers: bit t stands for test t.
+// Sets of tests, and of columns and faults, as numbers: bit t stands for test t.
 #![tactic(auto)]
 
 pub mod inner;

@@ -7,7 +7,7 @@ use lib.Dec.{eqb}
 use Rattle.folds.specs.Fold.{both, always, count, every, joined, single, some, total}
 use Rattle.folds.proofs.Bools.{both_left, both_right}
 use Rattle.sets.specs.Sets.{bit, has, one, share, within}
-use Rattle.table.specs.Answers.{verdict_number}
+use Rattle.table.specs.Answers.{answer_number}
 use Rattle.table.specs.declared.Reading.{Reading}
 use Rattle.table.specs.declared.Table.{Table}
 use Rattle.table.specs.Table.{cell_at, empty_table, place_of}
@@ -51,14 +51,14 @@ all_true tb [] h = tt
 all_true tb (x ∷ xs) h = (true_by tb x (both_left (is_true tb x) _ h), all_true tb xs (both_right (is_true tb x) _ h))
 
 fits : Entry → Reading → Bool
-fits e r = both (eqb (verdict_number r.verdict) e.number) (both (eqb r.place e.place) (are_true r.table e.says))
+fits e r = both (eqb (answer_number r.verdict) e.number) (both (eqb r.place e.place) (are_true r.table e.says))
 
 fits_by : (e : Entry) (r : Reading) → fits e r ≡ true → Fits e r
 unfolding fits
 fits_by e r h =
-    let rest : both (eqb r.place e.place) (are_true r.table e.says) ≡ true = both_right (eqb (verdict_number r.verdict) e.number) _ h in
+    let rest : both (eqb r.place e.place) (are_true r.table e.says) ≡ true = both_right (eqb (answer_number r.verdict) e.number) _ h in
     record {
-      number = eqb-true _ _ (both_left (eqb (verdict_number r.verdict) e.number) _ h);
+      number = eqb-true _ _ (both_left (eqb (answer_number r.verdict) e.number) _ h);
       place = eqb-true _ _ (both_left (eqb r.place e.place) _ rest);
       says = all_true _ _ (both_right (eqb r.place e.place) _ rest);
     }

@@ -9,11 +9,11 @@ use Rattle.folds.specs.Fold.{both}
 use Rattle.folds.proofs.Bools.{both_left, both_right}
 use Rattle.sets.specs.Sets.{size}
 use Rattle.table.specs.Test.{well_formed}
-use Rattle.table.proofs.Formed.{formed}
+use Rattle.table.proofs.Tested.{formed}
 use Rattle.table.specs.Answers.{number_of}
 use Rattle.table.specs.WellFormed.{WellFormed}
-use Rattle.table.specs.declared.Chosen.{Chosen}
-use Rattle.table.specs.declared.Chosen.TheVariants.{Tests, Refused}
+use Rattle.std.specs.Prelude.{Result, Ok, Err}
+use Rattle.table.specs.declared.Refusal.{Refusal}
 use Rattle.table.specs.declared.Goal.{Goal}
 use Rattle.table.specs.declared.Table.{Table}
 use Rattle.cover.specs.Answer.{kept_set, Exactly, AsideTest}
@@ -33,25 +33,25 @@ module _ (tb : Table) (goal : Goal) where
   exceeds cap s = ltb cap (size s)
 
   -- the cap gives r: the choice, which is within it, or 23, where no set within it reaches the goal
-  unfoldable pub cap_gives : ℕ → Chosen → Bool
-  cap_gives cap (Tests s) = both (is_choice tb goal s) (leb (size s) cap)
-  cap_gives cap (Refused why) = both (eqb (number_of why) 23) (each_reaching tb goal (exceeds cap))
+  unfoldable pub cap_gives : ℕ → Result ℕ Refusal → Bool
+  cap_gives cap (Ok s) = both (is_choice tb goal s) (leb (size s) cap)
+  cap_gives cap (Err why) = both (eqb (number_of why) 23) (each_reaching tb goal (exceeds cap))
 
-  unfoldable pub is_capped : ℕ → Chosen → Bool
+  unfoldable pub is_capped : ℕ → Result ℕ Refusal → Bool
   is_capped cap r = both (well_formed tb) (both (leb cap 24) (cap_gives cap r))
 
   module _ (cap : ℕ) (w : WellFormed tb) (fits : cap ≤ 24) where
-    cap_by : (r : Chosen) → cap_gives cap r ≡ true → ChoiceIs tb goal cap r
+    cap_by : (r : Result ℕ Refusal) → cap_gives cap r ≡ true → ChoiceIs tb goal cap r
     unfolding cap_gives exceeds
-    cap_by (Tests s) h = (w, fits, choice_by tb goal s (both_left (is_choice tb goal s) _ h), leb-true _ _ (both_right (is_choice tb goal s) _ h))
-    cap_by (Refused why) h = inr (inr (
+    cap_by (Ok s) h = (w, fits, choice_by tb goal s (both_left (is_choice tb goal s) _ h), leb-true _ _ (both_right (is_choice tb goal s) _ h))
+    cap_by (Err why) h = inr (inr (
       eqb-true _ _ (both_left (eqb (number_of why) 23) _ h),
       w,
       fits,
       λ s t r. ltb-true _ _ (each_reaching_lem tb goal (exceeds cap) (both_right (eqb (number_of why) 23) _ h) s t r),
     ))
 
-  pub capped_by : (cap : ℕ) (r : Chosen) → is_capped cap r ≡ true → ChoiceIs tb goal cap r
+  pub capped_by : (cap : ℕ) (r : Result ℕ Refusal) → is_capped cap r ≡ true → ChoiceIs tb goal cap r
   unfolding is_capped
   capped_by cap r h =
       let rest : both (leb cap 24) (cap_gives cap r) ≡ true = both_right (well_formed tb) _ h in

@@ -1,7 +1,6 @@
 -- The small books that document 01 marks with a star, under its sentences. A set of tests is the sum of 2 ^ t over its tests t.
 -- Assumes nothing.
-use Rattle.std.specs.Prelude.{List, [], ◌∷◌, ℕ, ◌+◌, ◌^◌}
-use Rattle.table.specs.declared.Chosen.TheVariants.{Tests, Refused}
+use Rattle.std.specs.Prelude.{List, [], ◌∷◌, ℕ, ◌+◌, ◌^◌, Ok, Err}
 use Rattle.table.specs.declared.Goal.TheVariants.{Detect, Diagnose}
 use Rattle.table.specs.declared.Refusal.TheVariants.{NoneWithinCap}
 use Rattle.small_books.specs.Claim.{Saying, classes, choice, aside, capped, Entry}
@@ -54,8 +53,8 @@ small_books =
     (choice Detect 0 ∷ choice Diagnose 0 ∷ aside Detect (2 ^ 0) ∷ aside Diagnose (2 ^ 0) ∷ [])
     -- "`54 00 46 01 00 52 00 00 01 45 01 01`: choice {0}; cap 0 gives 23, cap 1 doesn't."
     ∷ accepted (0x54 ∷ 0x00 ∷ 0x46 ∷ 0x01 ∷ 0x00 ∷ 0x52 ∷ 0x00 ∷ 0x00 ∷ 0x01 ∷ 0x45 ∷ 0x01 ∷ 0x01 ∷ []) 12
-    (choice Detect (2 ^ 0) ∷ capped Detect 0 (Refused NoneWithinCap) ∷ capped Detect 1 (Tests (2 ^ 0))
-    ∷ choice Diagnose (2 ^ 0) ∷ capped Diagnose 0 (Refused NoneWithinCap) ∷ capped Diagnose 1 (Tests (2 ^ 0)) ∷ [])
+    (choice Detect (2 ^ 0) ∷ capped Detect 0 (Err NoneWithinCap) ∷ capped Detect 1 (Ok (2 ^ 0))
+    ∷ choice Diagnose (2 ^ 0) ∷ capped Diagnose 0 (Err NoneWithinCap) ∷ capped Diagnose 1 (Ok (2 ^ 0)) ∷ [])
     -- "The same without its response: one class, choices empty."
     ∷ accepted (0x54 ∷ 0x00 ∷ 0x46 ∷ 0x01 ∷ 0x00 ∷ 0x45 ∷ 0x01 ∷ 0x01 ∷ []) 8
     (classes 1 ∷ choice Detect 0 ∷ choice Diagnose 0 ∷ [])

@@ -1,10 +1,10 @@
 -- What is claimed of a book. Assumes nothing.
-use Rattle.std.specs.Prelude.{List, [], ◌∷◌, ◌≡◌, ℕ}
+use Rattle.std.specs.Prelude.{List, [], ◌∷◌, ◌≡◌, ℕ, Result}
 use Rattle.book.specs.Reading.{read_book}
 use Rattle.choice.specs.Answer.{ChoiceIs}
 use Rattle.cover.specs.Answer.{Exactly, AsideTest}
-use Rattle.table.specs.Answers.{verdict_number}
-use Rattle.table.specs.declared.Chosen.{Chosen}
+use Rattle.table.specs.Answers.{answer_number}
+use Rattle.table.specs.declared.Refusal.{Refusal}
 use Rattle.table.specs.declared.Goal.{Goal}
 use Rattle.table.specs.declared.Reading.{Reading}
 use Rattle.table.specs.declared.Table.{Table}
@@ -20,7 +20,7 @@ pub data Saying : Type 0 where
   -- the tests set aside for a goal, and no others
   aside : Goal → ℕ → Saying
   -- what a cap gives for a goal
-  capped : Goal → ℕ → Chosen → Saying
+  capped : Goal → ℕ → Result ℕ Refusal → Saying
 
 -- the saying is true of the table
 abbrev pub TrueOf : Table → Saying → Type 0
@@ -42,7 +42,7 @@ pub record Entry : Type 0 where
 
 -- the reading has the entry's number and place, and what is said is true of its table
 pub record Fits (e : Entry) (r : Reading) : Type 0 where
-  pub number : verdict_number r.verdict ≡ e.number
+  pub number : answer_number r.verdict ≡ e.number
   pub place : r.place ≡ e.place
   pub says : AllTrue r.table e.says
 

@@ -1,14 +1,12 @@
 // The full adder: its sheets under the diagnose choice.
-ghost use Rattle.std.specs.Prelude.{◌≤◌, length};
-
 use crate::show;
 use std::io;
-use table::{Chosen, Goal, Table, Written};
+use table::{Goal, Refusal, Table};
 
-fn written(rt: &impl Print, answer: Written) -> io::Result<()> {
+fn written(rt: &impl Print, answer: Result<usize, Refusal>) -> io::Result<()> {
     match answer {
-        Written::Bytes(n) => show::number(rt, n as u64),
-        Written::Refused(why) => show::refusal(rt, why),
+        Ok(n) => show::number(rt, n as u64),
+        Err(why) => show::refusal(rt, why),
     }
 }
 
@@ -17,32 +15,21 @@ fn row(rt: &impl Print, table: Table, set: u32, outputs: &[u8]) -> io::Result<()
     rt.write_all(b"row")?;
     show::bytes(rt, outputs)?;
     rt.write_all(b" :")?;
-    let suspects = suspects::suspects_of(table, set, outputs);
-    let columns = suspects.columns;
-    show::columns(rt, columns, suspects.count)?;
+    if let Ok(columns) = suspects::suspects_of(table, set, outputs) {
+        show::bytes(rt, columns.as_slice())?;
+    }
     show::end(rt)
 }
 
-// The nine rows of three outputs.
-fn rows(rt: &impl Print, table: Table, set: u32, sheet: &[u8]) -> io::Result<()>
-    requires { 27 ≤ length sheet.now }
-{
-    let mut i = 0;
-    while i < 9 {
-        let at = 3 * i;
-        let end = at + 3;
-        row(rt, table, set, &sheet[at..end])?;
-        i += 1;
-    }
-    Ok(())
-}
-
+// The nine rows of three outputs, and the witness sheet.
 fn sheets(rt: &impl Print, table: Table, set: u32) -> io::Result<()> {
     let mut sheet = [0; 27];
     rt.write_all(b"dictionary")?;
     written(rt, dictionary::dictionary(table, set, &mut sheet))?;
     show::end(rt)?;
-    rows(rt, table, set, &sheet)?;
+    for outputs in sheet.chunks_exact(3) {
+        row(rt, table, set, outputs)?;
+    }
     let mut witnesses = [0; 36];
     rt.write_all(b"witness sheet")?;
     written(rt, witness::witness_sheet(table, set, &mut witnesses))?;
@@ -56,12 +43,12 @@ pub fn full_adder(rt: &impl Print) -> io::Result<()> {
     let table = adder::full_adder();
     show::card(rt, table)?;
     rt.write_all(b"class of each column")?;
-    let classes = classes::classify(table);
-    let of = classes.of;
-    show::columns(rt, of, 11)?;
+    if let Ok(classes) = classes::classify(table) {
+        show::bytes(rt, &classes.of[..11])?;
+    }
     show::end(rt)?;
     match choice::choose(table, Goal::Diagnose, 24) {
-        Chosen::Tests(set) => sheets(rt, table, set),
-        Chosen::Refused(why) => show::refusal(rt, why),
+        Ok(set) => sheets(rt, table, set),
+        Err(why) => show::refusal(rt, why),
     }
 }

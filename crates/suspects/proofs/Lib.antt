@@ -1,5 +1,6 @@
 pub mod Answers
-pub mod Calls
+pub mod Listed
 pub mod Meaning
 pub mod Named
 pub mod Pins
+pub mod Walk

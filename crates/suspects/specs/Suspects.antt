@@ -1,15 +1,14 @@
 -- The suspects for observed outputs. The sentences are document 01's.
 -- Assumes nothing.
-use Rattle.std.specs.Prelude.{Bool, true, false, not, List, [], ◌∷◌, ℕ, eqb, length, get_or, replicate}
-use Rattle.folds.specs.Fold.{pick, both, either, count, gather, onto}
+use Rattle.std.specs.Prelude.{Bool, true, false, List, [], ◌∷◌, ℕ, eqb, length, Result, Ok, Err}
+use Rattle.arrayvec.specs.ArrayVec.{ArrayVec}
+use Rattle.folds.specs.Fold.{pick, both, count, gather}
 use Rattle.sets.specs.Sets.{has, within}
 use Rattle.table.specs.Table.{output_at, columns}
 use Rattle.table.specs.Test.{well_formed}
 use Rattle.table.specs.declared.Refusal.{Refusal}
 use Rattle.table.specs.declared.Refusal.TheVariants.{NotWellFormed, UnknownTest, NotOneEach}
-use Rattle.table.specs.declared.Suspects.{Suspects}
 use Rattle.table.specs.declared.Table.{Table}
-use Rattle.table.specs.declared.Verdict.TheVariants.{Accepted, Refused}
 use Rattle.terms.specs.Columns.{outputs_under}
 
 -- the two lists are equal
@@ -19,38 +18,31 @@ equal [] (y ∷ ys) = false
 equal (x ∷ xs) [] = false
 equal (x ∷ xs) (y ∷ ys) = both (eqb x y) (equal xs ys)
 
--- no column
-unfoldable pub unlisted : List ℕ
-unlisted = replicate 61 0
-
 -- a column's own number
 abbrev pub itself : ℕ → ℕ
 itself c = c
 
 module _ (out : ℕ → ℕ → ℕ) where
-  -- test t is not in the set s, or gives column c the output that was observed for it
-  unfoldable pub answers : ℕ → List ℕ → ℕ → ℕ → Bool
-  answers s seen c t = either (not (has s t)) (eqb (out t c) (get_or seen (count (has s) t) 0))
-
   module _ (tests s : ℕ) (seen : List ℕ) where
     -- "Suspects are all columns whose signature under the set equals the observed outputs."
     unfoldable pub suspect : ℕ → Bool
     suspect c = equal (outputs_under out tests s c) seen
 
-    -- "They come back in the answer itself, in rising order, at most 61": zero past the last
-    unfoldable pub found_under : ℕ → Suspects
-    found_under n = record { verdict = Accepted; count = count suspect n; columns = onto (gather suspect itself n) unlisted }
-
--- "A refused call returns the number with the empty set, list or count 0."
-unfoldable pub refused_by : Refusal → Suspects
-refused_by why = record { verdict = Refused why; count = 0; columns = unlisted }
+    -- "They come back in the answer itself, in rising order, at most 61"
+    unfoldable pub found_under : ℕ → ArrayVec ℕ
+    found_under n = record { items = gather suspect itself n }
 
 -- "20 | a call's table is not well formed", "21 | a given set holds a test that the table lacks", "25 | observed outputs are not
 -- one for each test of the set", in that order
-unfoldable pub suspects_of : Table → ℕ → List ℕ → Suspects
+unfoldable pub suspects_of : Table → ℕ → List ℕ → Result (ArrayVec ℕ) Refusal
 suspects_of tb s seen =
     pick (well_formed tb)
     (pick (within s tb.tests)
-    (pick (eqb (length seen) (count (has s) tb.tests)) (found_under (output_at tb) tb.tests s seen (columns tb)) (refused_by NotOneEach))
-    (refused_by UnknownTest))
-    (refused_by NotWellFormed)
+    (pick (eqb (length seen) (count (has s) tb.tests)) (Ok (found_under (output_at tb) tb.tests s seen (columns tb))) (Err NotOneEach))
+    (Err UnknownTest))
+    (Err NotWellFormed)
+
+-- the list of an answer, and none of a refused one: "A refused call returns the number with the empty set, list or count 0."
+abbrev pub answer_list : Result (ArrayVec ℕ) Refusal → List ℕ
+answer_list (Ok list) = list.items
+answer_list (Err why) = []

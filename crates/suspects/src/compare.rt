@@ -1,83 +1,49 @@
 // Each column compared with the observed outputs.
-ghost use Rattle.std.specs.Prelude.{◌≡◌, ◌+◌, ◌≤◌, ◌<◌, length};
+ghost use Rattle.std.specs.Prelude.{◌≡◌, length};
 ghost use Rattle.folds.specs.Fold.{count};
 ghost use Rattle.sets.specs.Sets.{has};
-ghost use Rattle.table.specs.Table.{cell_at};
-ghost use Rattle.suspects.specs.Suspects.{answers, suspect, found_under};
 
-use table::{Suspects, Verdict};
+use arrayvec::ArrayVec;
+use lent::Given;
 
-// Whether test t is not in the set, or gives column c the output observed for it, which stands at j.
-fn answers<'a>(
-    cells: &'a [u8; 1464],
-    tests: usize,
-    set: u32,
-    outputs: &'a [u8],
-    c: usize,
-    t: usize,
-    j: usize,
-) -> bool
-    requires { (tests ≤ 24) × (c < 61) × (t < tests) × (length outputs.now ≡ count (has set) tests) × (j ≡ count (has set) t) }
-    ensures { result ≡ answers (cell_at cells.now) set outputs.now c t }
-{
-    if !sets::inner::has(set, t) {
-        return true;
-    }
-    table::inner::cell(cells, t, c) == outputs[j]
+// The outputs observed in the tests of a set, one for each.
+#[derive(Clone, Copy)]
+pub struct Observed<'a> {
+    pub given: &'a Given,
+    pub outputs: &'a [u8],
+    pub ghost one_each: { length outputs.now ≡ count (has given.now.set) given.now.table.table.tests },
 }
 
-// The place of the next output, after test t.
-fn place_after(set: u32, t: usize, j: usize) -> usize
-    requires { (t < 24) × (j ≡ count (has set) t) }
-    ensures { result ≡ count (has set) (t + 1) }
-{
-    if !sets::inner::has(set, t) {
-        return j;
-    }
-    j + 1
-}
+impl<'a> Observed<'a> {
+    ghost use Rattle.std.specs.Prelude.{◌<◌};
+    ghost use Rattle.folds.specs.Fold.{gather};
+    ghost use Rattle.table.specs.Table.{output_at, columns};
+    ghost use Rattle.suspects.specs.Suspects.{suspect, itself};
 
-// Whether column c is a suspect.
-fn suspect<'a>(cells: &'a [u8; 1464], tests: usize, set: u32, outputs: &'a [u8], c: usize) -> bool
-    requires { (tests ≤ 24) × (c < 61) × (length outputs.now ≡ count (has set) tests) }
-    ensures { result ≡ suspect (cell_at cells.now) tests set outputs.now c }
-{
-    let mut j = 0;
-    let mut i = 0;
-    while i < tests {
-        if !answers(cells, tests, set, outputs, c, i, j) {
-            return false;
+    // Whether column c is a suspect.
+    fn is_suspect(&self, c: usize) -> bool
+        requires { c < 61 }
+        ensures { result ≡ suspect (output_at self.now.given.now.table.table) self.now.given.now.table.table.tests self.now.given.now.set self.now.outputs.now c }
+    {
+        let mut observed = self.outputs.iter();
+        for t in 0..self.given.table.tests() {
+            if self.given.has(t) && observed.next() != Some(&self.given.table.output(t, c)) {
+                return false;
+            }
         }
-        j = place_after(set, i, j);
-        i += 1;
+        true
     }
-    true
-}
 
-// The suspects among the columns, in rising order.
-pub fn found<'a>(
-    cells: &'a [u8; 1464],
-    tests: usize,
-    set: u32,
-    outputs: &'a [u8],
-    columns: usize,
-) -> Suspects
-    requires { (tests ≤ 24) × (columns ≤ 61) × (length outputs.now ≡ count (has set) tests) }
-    ensures { result ≡ found_under (cell_at cells.now) tests set outputs.now columns }
-{
-    let mut list = [0u8; 61];
-    let mut n: usize = 0;
-    let mut i = 0;
-    while i < columns {
-        if suspect(cells, tests, set, outputs, i) {
-            list[n] = i as u8;
-            n += 1;
+    // The suspects among the columns, in rising order.
+    pub fn suspects(&self) -> ArrayVec<u8, 61>
+        ensures { result.items ≡ gather (suspect (output_at self.now.given.now.table.table) self.now.given.now.table.table.tests self.now.given.now.set self.now.outputs.now) itself (columns self.now.given.now.table.table) }
+    {
+        let mut list = ArrayVec::new();
+        for c in 0..self.given.table.columns() {
+            if self.is_suspect(c) {
+                list.push(c as u8);
+            }
         }
-        i += 1;
-    }
-    Suspects {
-        verdict: Verdict::Accepted,
-        count: n,
-        columns: list,
+        list
     }
 }

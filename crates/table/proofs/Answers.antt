@@ -6,11 +6,8 @@ use lib.Dec.{eqb}
 use Rattle.folds.specs.Fold.{pick}
 use Rattle.table.specs.declared.Refusal.{Refusal}
 use Rattle.table.specs.declared.Refusal.TheVariants.{UnknownKind, BodyCut, NoEnd, OutOfPlace, TooMany, StuckValue, SameLabel, NotInBook, NotAfter, RepeatsCorrect, WrongCounts, BytesFollow, NotWellFormed, UnknownTest, CapTooHigh, NoneWithinCap, BufferShort, NotOneEach}
-use Rattle.table.specs.declared.Faults.{Faults}
-use Rattle.table.specs.declared.Written.{Written}
-use Rattle.table.specs.Answers.{number_of, faults_number, faults_set, written_number, written_count}
-use Rattle.table.specs.declared.Faults.TheVariants as faults
-use Rattle.table.specs.declared.Written.TheVariants as written
+use Rattle.std.specs.Prelude.{Result, Ok, Err}
+use Rattle.table.specs.Answers.{number_of, answer_number, answer_value}
 
 -- a refusal has a number of one or two digits, and not 0
 pub number_bounds : (why : Refusal) → (0 < number_of why) × (number_of why < 100)
@@ -88,22 +85,15 @@ module _ {A : Type 0} (accepted : ℕ → A) (refused : Refusal → A) where
   accepted_back v = refl
 
   -- where number and value give the answer back, two answers that agree in both are one
-  answer_one : (number value : A → ℕ) → ((a : A) → answer_of (number a) (value a) ≡ a) → (a b : A) → number a ≡ number b → value a ≡ value b → a ≡ b
-  answer_one number value back a b h k = sym (back a) ∙ (λ i. answer_of (h i) (k i)) ∙ back b
+  told_apart : (number value : A → ℕ) → ((a : A) → answer_of (number a) (value a) ≡ a) → (a b : A) → number a ≡ number b → value a ≡ value b → a ≡ b
+  told_apart number value back a b h k = sym (back a) ∙ (λ i. answer_of (h i) (k i)) ∙ back b
 
 pub number_one : (a b : Refusal) → number_of a ≡ number_of b → a ≡ b
-number_one a b e = answer_one {A = Refusal} (λ v. UnknownKind) (λ why. why) number_of (λ why. 0) (refused_back (λ v. UnknownKind) (λ why. why)) a b e refl
+number_one a b e = told_apart {A = Refusal} (λ v. UnknownKind) (λ why. why) number_of (λ why. 0) (refused_back (λ v. UnknownKind) (λ why. why)) a b e refl
 
-pub faults_one : (a b : Faults) → faults_number a ≡ faults_number b → faults_set a ≡ faults_set b → a ≡ b
-faults_one = answer_one faults.Set faults.Refused faults_number faults_set back
+pub answer_one : (a b : Result ℕ Refusal) → answer_number a ≡ answer_number b → answer_value a ≡ answer_value b → a ≡ b
+answer_one = told_apart Ok Err answer_number answer_value back
   where
-    back : (a : Faults) → answer_of faults.Set faults.Refused (faults_number a) (faults_set a) ≡ a
-    back (faults.Set s) = accepted_back faults.Set faults.Refused s
-    back (faults.Refused why) = refused_back faults.Set faults.Refused why
-
-pub written_one : (a b : Written) → written_number a ≡ written_number b → written_count a ≡ written_count b → a ≡ b
-written_one = answer_one written.Bytes written.Refused written_number written_count back
-  where
-    back : (a : Written) → answer_of written.Bytes written.Refused (written_number a) (written_count a) ≡ a
-    back (written.Bytes k) = accepted_back written.Bytes written.Refused k
-    back (written.Refused why) = refused_back written.Bytes written.Refused why
+    back : (a : Result ℕ Refusal) → answer_of Ok Err (answer_number a) (answer_value a) ≡ a
+    back (Ok value) = accepted_back Ok Err value
+    back (Err why) = refused_back Ok Err why

@@ -1,6 +1,6 @@
 pub mod Cells
 pub mod Stored
-pub mod Formed
+pub mod Tested
 pub mod Empty
 pub mod Answers
 pub mod Pins

@@ -1,16 +1,8 @@
 -- The paper's numbers and values of each answer, by cases. The sentences are document 01's.
 -- Assumes nothing.
-use Rattle.std.specs.Prelude.{ℕ}
+use Rattle.std.specs.Prelude.{ℕ, Result, Ok, Err}
 use Rattle.table.specs.declared.Refusal.{Refusal}
 use Rattle.table.specs.declared.Refusal.TheVariants.{UnknownKind, BodyCut, NoEnd, OutOfPlace, TooMany, StuckValue, SameLabel, NotInBook, NotAfter, RepeatsCorrect, WrongCounts, BytesFollow, NotWellFormed, UnknownTest, CapTooHigh, NoneWithinCap, BufferShort, NotOneEach}
-use Rattle.table.specs.declared.Verdict.{Verdict}
-use Rattle.table.specs.declared.Verdict.TheVariants as verdict
-use Rattle.table.specs.declared.Chosen.{Chosen}
-use Rattle.table.specs.declared.Chosen.TheVariants as chosen
-use Rattle.table.specs.declared.Faults.{Faults}
-use Rattle.table.specs.declared.Faults.TheVariants as faults
-use Rattle.table.specs.declared.Written.{Written}
-use Rattle.table.specs.declared.Written.TheVariants as written
 
 -- "No. | Given exactly when"
 abbrev pub number_of : Refusal → ℕ
@@ -51,31 +43,12 @@ number_of BufferShort = 24
 -- observed outputs are not one for each test of the set
 number_of NotOneEach = 25
 
--- "An accepted call's number is 0." "A refused call returns the number with the empty set, list or count 0."
-abbrev pub verdict_number : Verdict → ℕ
-verdict_number verdict.Accepted = 0
-verdict_number (verdict.Refused why) = number_of why
+-- "An accepted call's number is 0."
+abbrev pub answer_number : {A : Type 0} → Result A Refusal → ℕ
+answer_number (Ok value) = 0
+answer_number (Err why) = number_of why
 
-abbrev pub chosen_number : Chosen → ℕ
-chosen_number (chosen.Tests s) = 0
-chosen_number (chosen.Refused why) = number_of why
-
-abbrev pub chosen_set : Chosen → ℕ
-chosen_set (chosen.Tests s) = s
-chosen_set (chosen.Refused why) = 0
-
-abbrev pub faults_number : Faults → ℕ
-faults_number (faults.Set s) = 0
-faults_number (faults.Refused why) = number_of why
-
-abbrev pub faults_set : Faults → ℕ
-faults_set (faults.Set s) = s
-faults_set (faults.Refused why) = 0
-
-abbrev pub written_number : Written → ℕ
-written_number (written.Bytes n) = 0
-written_number (written.Refused why) = number_of why
-
-abbrev pub written_count : Written → ℕ
-written_count (written.Bytes n) = n
-written_count (written.Refused why) = 0
+-- "A refused call returns the number with the empty set, list or count 0.": the set or the count of an answer
+abbrev pub answer_value : Result ℕ Refusal → ℕ
+answer_value (Ok value) = value
+answer_value (Err why) = 0

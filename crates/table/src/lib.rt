@@ -6,10 +6,16 @@ ghost use Rattle.table.specs.Answers.{number_of};
 ghost use Rattle.table.specs.Table.{empty_table};
 ghost use Rattle.table.specs.Test.{Tested};
 
+mod fitting;
 mod form;
+mod goals;
 pub mod inner;
 
-// Column 0 is the healthy card, column f + 1 the card with fault f.
+pub use fitting::Fitting;
+pub use goals::UnknownGoal;
+
+// Column 0 is the healthy card, column f + 1 the card with fault f. The paper fixes the form: the counts, the cells in one array, two
+// arrays of labels.
 #[derive(Clone, Copy)]
 pub struct Table {
     pub tests: usize,
@@ -19,14 +25,14 @@ pub struct Table {
     pub stuck: [u8; 60],
 }
 
-#[derive(Clone, Copy)]
+#[derive(Clone, Copy, PartialEq, Eq)]
 pub enum Goal {
     Detect,
     Diagnose,
 }
 
 // Why a book or a call is refused; `number` gives each its number.
-#[derive(Clone, Copy)]
+#[derive(Clone, Copy, PartialEq, Eq)]
 pub enum Refusal {
     UnknownKind,
     BodyCut,
@@ -49,52 +55,17 @@ pub enum Refusal {
 }
 
 #[derive(Clone, Copy)]
-pub enum Verdict {
-    Accepted,
-    Refused(Refusal),
-}
-
-// A set of tests: bit t for test t.
-#[derive(Clone, Copy)]
-pub enum Chosen {
-    Tests(u32),
-    Refused(Refusal),
-}
-
-// A set of faults: bit f for fault f.
-#[derive(Clone, Copy)]
-pub enum Faults {
-    Set(u64),
-    Refused(Refusal),
-}
-
-// How many bytes of a lent buffer were written.
-#[derive(Clone, Copy)]
-pub enum Written {
-    Bytes(usize),
-    Refused(Refusal),
-}
-
-#[derive(Clone, Copy)]
 pub struct Reading {
-    pub verdict: Verdict,
+    pub verdict: Result<(), Refusal>,
     pub place: usize,
     pub table: Table,
 }
 
-// The number of classes, and the class number of each column.
+// The number of classes, and the class number of each column; zero past the last column, as `classify` promises.
 #[derive(Clone, Copy)]
 pub struct Classes {
-    pub verdict: Verdict,
     pub count: usize,
     pub of: [u8; 61],
-}
-
-#[derive(Clone, Copy)]
-pub struct Suspects {
-    pub verdict: Verdict,
-    pub count: usize,
-    pub columns: [u8; 61],
 }
 
 pub fn empty_table() -> Table
@@ -109,7 +80,7 @@ pub fn empty_table() -> Table
     }
 }
 
-// The paper's number of a refusal.
+// The paper's number of a refusal, case by case as the paper lists them.
 pub fn number(why: Refusal) -> u8
     ensures { result ≡ number_of why }
 {
@@ -136,19 +107,9 @@ pub fn number(why: Refusal) -> u8
 }
 
 // Whether some book gives the table.
+#[tactic(auto, unfolding(crate::specs::Test::well_formed), using(crate::proofs::Tested::tested_by))]
 pub fn well_formed(table: Table) -> bool
     ensures { Tested table result }
 {
-    let tests = table.tests;
-    let faults = table.faults;
-    if tests > 24 {
-        return false;
-    }
-    if faults > 60 {
-        return false;
-    }
-    if !form::labels_right(&table.lines, &table.stuck, faults) {
-        return false;
-    }
-    form::rows_right(&table.cells, tests, faults)
+    table.tests <= 24 && table.faults <= 60 && table.labels_right() && table.rows_right()
 }

@@ -35,7 +35,7 @@ module _ (P : ℕ → Type 0) (one : (n : ℕ) → n < 10 → P n) (more : (n : 
   below zero n h = absurd (omega arith)
   below (suc k) n h = ⊎_elim (λ w. one n w) (λ w. more n w (below k (n / 10) (omega arith))) (lt_or_ge n 10)
 
-  by_digits : (n : ℕ) → P n
+  pub by_digits : (n : ℕ) → P n
   by_digits n = below (suc n) n (omega arith)
 
 -- the value of decimal digits

@@ -1,3 +1,2 @@
 pub mod Decimal
-pub mod Writes
-pub mod Items
+pub mod Adds

@@ -1,6 +1,5 @@
 -- Pieces of text as bytes. Assumes nothing.
-use Rattle.std.specs.Prelude.{List, [], ◌∷◌, ◌++◌, ◌≡◌, ℕ, zero, suc, ◌+◌, ◌/◌, ◌%◌, max, min, ltb, length}
-use Rattle.std.proofs.lemmas.List.Edits.{sets}
+use Rattle.std.specs.Prelude.{List, [], ◌∷◌, ◌++◌, ◌≡◌, ℕ, zero, suc, ◌+◌, ◌/◌, ◌%◌, ltb, take}
 use Rattle.folds.specs.Fold.{pick}
 
 -- at most k decimal digits of n, the highest first
@@ -12,7 +11,10 @@ digits (suc k) n = pick (ltb n 10) ((48 + n) ∷ []) (digits k (n / 10) ++ ((48 
 unfoldable pub decimal_of : ℕ → List ℕ
 decimal_of n = digits (suc n) n
 
--- `piece` is written from place `at` on, as far as the buffer goes, and r is the place behind what was written
-pub record Writes (at : ℕ) (piece entry : List ℕ) (r : ℕ) (exit : List ℕ) : Type 0 where
-  pub place : r ≡ max at (min (at + length piece) (length entry))
-  pub bytes : exit ≡ sets entry at piece
+-- a page takes no more bytes
+abbrev pub page_size : ℕ
+page_size = 7364
+
+-- `piece` is written behind what stands on a page, as far as the page goes
+pub record Adds (piece old new : List ℕ) : Type 0 where
+  pub page : take page_size new ≡ take page_size (old ++ piece)

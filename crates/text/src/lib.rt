@@ -1,4 +1,6 @@
-// Words and plain decimals, written one after the other into a lent buffer.
+// A page, on which words and plain decimals are written one after the other.
 #![tactic(auto)]
 
-pub mod inner;
+mod page;
+
+pub use page::Page;

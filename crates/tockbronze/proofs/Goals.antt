@@ -1,38 +1,62 @@
 -- The calls for a goal. Assumes nothing.
 use mathlib.Core.List.{List}
-use mathlib.Core.Logic.{inl, inr, ⊎_elim}
-use mathlib.Core.Path.{◌≡◌, sym, ◌∙◌}
+use mathlib.Core.Logic.{◌⊎◌, inl, inr, ⊎_elim}
+use mathlib.Core.Path.{◌≡◌, refl, sym, ap, ◌∙◌}
 use Prim.Native.Nat.{ℕ, ◌≤◌, ◌<◌}
 use native.Mathlib.Omega.{arith}
+use Rattle.std.specs.Prelude.{Result, Ok, Err, MatchResult}
+use Rattle.std.specs.Result.{IsOkAnd}
 use Rattle.folds.proofs.Below.{lt_or_ge}
-use Rattle.table.specs.Answers.{chosen_number, chosen_set}
-use Rattle.table.specs.declared.Chosen.{Chosen}
-use Rattle.table.specs.declared.Chosen.TheVariants.{Tests, Refused}
+use Rattle.table.specs.Answers.{answer_number, answer_value}
+use Rattle.table.specs.Goals.{goal_number}
 use Rattle.table.specs.declared.Goal.{Goal}
+use Rattle.table.specs.declared.Goal.TheVariants.{Detect, Diagnose}
+use Rattle.table.specs.declared.Refusal.{Refusal}
 use Rattle.table.specs.declared.Table.{Table}
 use Rattle.choice.specs.Answer.{ChoiceIs}
 use Rattle.flat.specs.Flat.{lent_table}
 use Rattle.flat.specs.Packed.{packed, goal_of, unknown_goal, cap_of}
 use Rattle.flat.proofs.Numbers.{cap_high, cap_low}
-use Rattle.tockbronze.specs.Calls.{ForGoal}
+use Rattle.tockbronze.specs.Calls.{ForGoal, FromChosen}
 
-module _ (Given : Table → Goal → Chosen → Type 0) (bytes : List ℕ) (goal r : ℕ) (tb : Table) (lent : tb ≡ lent_table bytes) where
-  pub no_goal : 1 < goal → r ≡ unknown_goal tb → ForGoal Given bytes goal r
-  no_goal h e = inr (h, rw lent at e)
+pub ok_weaker : (b : Result ℕ Refusal) (P Q : ℕ → Type 0) → IsOkAnd b P → ((y : ℕ) → P y → Q y) → IsOkAnd b Q
+ok_weaker (Ok y) P Q p imp = imp y p
+ok_weaker (Err why) P Q p imp = absurd p
 
-  pub for_goal : (g : Goal) (a : Chosen) → goal ≤ 1 → g ≡ goal_of goal → Given tb g a → r ≡ packed (chosen_number a) (chosen_set a) → ForGoal Given bytes goal r
-  for_goal g a h eg given e = inl (h, record { answer = a; given = rw (sym lent, sym eg) given; is = e })
+-- an answer whose set is given as another number's type
+same_answer : (a b : Result ℕ Refusal) → MatchResult a (λ x. IsOkAnd b (λ y. y ≡ x)) (λ why. b ≡ Err why) → b ≡ a
+same_answer (Ok x) (Ok y) e = ap Ok e
+same_answer (Ok x) (Err why) e = absurd e
+same_answer (Err why) b e = e
+
+goal_back : (g : Goal) → (goal_number g ≤ 1) × (goal_of (goal_number g) ≡ g)
+unfolding goal_of
+goal_back Detect = (omega arith, refl)
+goal_back Diagnose = (omega arith, refl)
+
+module _ (Given : Table → Goal → Result ℕ Refusal → Type 0) (bytes : List ℕ) (goal r : ℕ) (tb : Table) (lent : tb ≡ lent_table bytes) where
+  pub for_goal : (g : Goal) (a b : Result ℕ Refusal) → goal_number g ≡ goal → Given tb g a
+      → MatchResult a (λ x. IsOkAnd b (λ y. y ≡ x)) (λ why. b ≡ Err why) → r ≡ packed (answer_number b) (answer_value b) → ForGoal Given bytes goal r
+  for_goal g a b e given m er =
+      let k = goal_back g in
+      inl (rw (← e) k.0, record { answer = a; given = rw (← lent, ← e, k.1) given; is = er ∙ rw (same_answer a b m) refl })
 
 -- a choice within 25 tests is refused as one within any cap above 24
-over : (tb : Table) (goal : Goal) (cap : ℕ) → 24 < cap → (a : Chosen) → ChoiceIs tb goal 25 a → ChoiceIs tb goal cap a
-over tb goal cap h (Tests s) (w, l, c, n) = absurd (omega arith)
-over tb goal cap h (Refused why) (inl p) = inl p
-over tb goal cap h (Refused why) (inr (inl (e, w, l))) = inr (inl (e, w, h))
-over tb goal cap h (Refused why) (inr (inr (e, w, l, n))) = absurd (omega arith)
+over : (tb : Table) (goal : Goal) (cap : ℕ) → 24 < cap → (a : Result ℕ Refusal) → ChoiceIs tb goal 25 a → ChoiceIs tb goal cap a
+over tb goal cap h (Ok s) (w, l, c, n) = absurd (omega arith)
+over tb goal cap h (Err why) (inl p) = inl p
+over tb goal cap h (Err why) (inr (inl (e, w, l))) = inr (inl (e, w, h))
+over tb goal cap h (Err why) (inr (inr (e, w, l, n))) = absurd (omega arith)
 
-pub cap_same : (tb : Table) (goal : Goal) (cap m : ℕ) (a : Chosen) → m ≡ cap_of cap → ChoiceIs tb goal m a → ChoiceIs tb goal cap a
+pub cap_same : (tb : Table) (goal : Goal) (cap m : ℕ) (a : Result ℕ Refusal) → m ≡ cap_of cap → ChoiceIs tb goal m a → ChoiceIs tb goal cap a
 cap_same tb goal cap m a e given =
     ⊎_elim
     (λ (h : 24 < cap). let f : m ≡ 25 = e ∙ sym (cap_high cap h) in over tb goal cap h a (rw f at given))
     (λ (h : cap ≤ 24). let f : m ≡ cap = e ∙ sym (cap_low cap h) in rw f at given)
     (lt_or_ge 24 cap)
+
+-- what the call ensures of its answer, by what is promised
+pub promised : (Given : Table → Goal → Result ℕ Refusal → Type 0) (P : Result ℕ Refusal → Type 0) (bytes : List ℕ) (goal r : ℕ) → ((goal ≤ 1) × FromChosen P r) ⊎ ((1 < goal) × (r ≡ unknown_goal (lent_table bytes)))
+    → ((a : Result ℕ Refusal) → P a → Given (lent_table bytes) (goal_of goal) a) → ForGoal Given bytes goal r
+promised Given P bytes goal r (inl (h, p)) imp = inl (h, record { answer = p.answer; given = imp p.answer p.given; is = p.is })
+promised Given P bytes goal r (inr p) imp = inr p

@@ -1,86 +1,93 @@
--- The calls that lay the class numbers and the suspects over a lent buffer. Assumes nothing.
-use mathlib.Core.Bool.{Bool, true, false, not}
+-- The calls that lay the class numbers, the suspects and the marks over a lent buffer. Assumes nothing.
+use mathlib.Core.Bool.{Bool, true, false}
 use mathlib.Core.List.{List}
 use mathlib.Core.Path.{◌≡◌, refl}
 use Prim.Native.Nat.{ℕ, ◌+◌, ◌≤◌}
 use native.Mathlib.Omega.{arith}
-use lib.Dec.{eqb}
 use lib.ListN.{take, length}
-use Rattle.folds.specs.Fold.{pick, count}
-use Rattle.folds.proofs.Count.{count_le}
-use Rattle.sets.specs.Sets.{has, within}
-use Rattle.table.specs.Answers.{number_of, verdict_number}
-use Rattle.table.specs.Table.{output_at, columns}
-use Rattle.table.specs.Test.{Tested, well_formed}
+use Rattle.std.specs.Prelude.{Result, Ok, Err}
+use Rattle.arrayvec.specs.ArrayVec.{ArrayVec}
+use Rattle.folds.specs.Fold.{pick, listed, total}
+use Rattle.sets.specs.Sets.{bit}
+use Rattle.table.specs.Answers.{answer_number, answer_value}
+use Rattle.table.specs.Table.{columns}
+use Rattle.table.specs.Test.{well_formed}
+use Rattle.table.specs.WellFormed.{WellFormed}
 use Rattle.table.specs.declared.Classes.{Classes}
 use Rattle.table.specs.declared.Refusal.{Refusal}
-use Rattle.table.specs.declared.Refusal.TheVariants.{NotWellFormed, UnknownTest}
-use Rattle.table.specs.declared.Suspects.{Suspects}
+use Rattle.table.specs.declared.Refusal.TheVariants.{NotWellFormed}
 use Rattle.table.specs.declared.Table.{Table}
-use Rattle.table.specs.declared.Verdict.TheVariants.{Accepted, Refused}
-use Rattle.table.proofs.Formed.{accepted, rejected, well, formed}
-use Rattle.classes.specs.Classes.{classes_of}
-use Rattle.suspects.specs.Suspects.{suspect, suspects_of, found_under, refused_by}
+use Rattle.table.proofs.Tested.{formed}
+use Rattle.classes.specs.Classes.{classes_of, classes_in}
+use Rattle.classes.specs.Undetectable.{UndetectableIn}
+use Rattle.suspects.specs.Suspects.{suspects_of}
 use Rattle.terms_laws.proofs.Classes.{few_classes}
 use Rattle.flat.specs.Flat.{lent_table}
-use Rattle.flat.specs.Writes.{CallWrites}
-use Rattle.flat.proofs.Room.{call_refused, refusal_some}
-use Rattle.tockbronze.specs.Calls.{ClassesWritten, ClassesCall, SuspectsWritten, SuspectsCall}
-
--- ---- classes
-
-module _ (bytes : List ℕ) (tb : Table) (lent : tb ≡ lent_table bytes) (d : List ℕ) (r : Bool) (t : Tested tb r) where
-  pub classes_20 : not r ≡ true → ClassesCall bytes d 20 d
-  unfolding classes_of
-  classes_20 q =
-      let w : ClassesWritten (columns tb) (classes_of tb) d 20 d = rw (rejected tb r t q) (call_refused 20 0 _ d refl) in
-      rw (← lent) w
-
-  module _ (q : not r ≡ false) (a : Classes) (ea : a ≡ classes_of tb) where
-    pub few_counted : a.count ≤ 61
-    unfolding classes_of
-    few_counted = rw (ea, accepted tb r t q) (few_classes tb (well tb r t q))
-
-    was_accepted : verdict_number a.verdict ≡ 0
-    unfolding classes_of
-    was_accepted = rw (ea, accepted tb r t q) refl
-
-    pub classes_0 : (n : ℕ) (e : List ℕ) → CallWrites 0 a.count (take (tb.faults + 1) a.of) d n e → ClassesCall bytes d n e
-    classes_0 n e w =
-        let v : ClassesWritten (columns tb) a d n e = rw was_accepted w in
-        rw (← lent, ← ea) v
+use Rattle.flat.specs.Packed.{packed}
+use Rattle.flat.specs.Writes.{Lays}
+use Rattle.flat.proofs.Room.{call_refusal, lays_call}
+use Rattle.tockbronze.specs.Calls.{ClassesWritten, ClassesCall, SuspectsWritten, SuspectsCall, MarksWritten, UndetectableCall}
 
 -- ---- suspects
 
-pick_has : (P : Suspects → Type 0) (b : Bool) (x y : Suspects) → (b ≡ true → P x) → P y → P (pick b x y)
-pick_has P true x y p q = p refl
-pick_has P false x y p q = q
+module _ (bytes : List ℕ) (tb : Table) (lent : tb ≡ lent_table bytes) (s : ℕ) (seen d : List ℕ) where
+  pub suspects_laid : (a : ArrayVec ℕ) → ◌≡◌ {A = Result (ArrayVec ℕ) Refusal} (Ok a) (suspects_of tb s seen) → (w : Result ℕ Refusal) (row : List ℕ) (n r : ℕ) (e : List ℕ)
+      → row ≡ a.items → n ≡ length a.items → Lays n row d w e → r ≡ packed (answer_number w) (answer_value w) → SuspectsCall bytes s seen d r e
+  suspects_laid a ea w row n r e er en l ew =
+      let v : SuspectsWritten (Ok a) d r e = rw (en, er) at (lays_call n row d w r e l ew) in
+      rw (← lent, ← ea) v
 
-few_suspects : (tb : Table) (s : ℕ) (seen : List ℕ) → (suspects_of tb s seen).count ≤ 61
-unfolding suspects_of found_under refused_by
-few_suspects tb s seen =
-    pick_has Few (well_formed tb) _ (refused_by NotWellFormed)
-    (λ w. pick_has Few (within s tb.tests) _ (refused_by UnknownTest)
-    (λ _. pick_has Few (eqb (length seen) (count (has s) tb.tests)) (found_under (output_at tb) tb.tests s seen (columns tb)) _
-    (λ _. omega (arith, (formed tb w).faults_fit, count_le (suspect (output_at tb) tb.tests s seen) (columns tb)))
-    (omega arith)) (omega arith)) (omega arith)
+  pub suspects_refused : (why : Refusal) → ◌≡◌ {A = Result (ArrayVec ℕ) Refusal} (Err why) (suspects_of tb s seen) → (r : ℕ) → r ≡ packed (answer_number {A = ℕ} (Err why)) (answer_value (Err why)) → SuspectsCall bytes s seen d r d
+  suspects_refused why ew r er =
+      let v : SuspectsWritten (Err why) d r d = call_refusal why _ _ d r er in
+      rw (← lent, ← ew) v
+
+-- ---- classes
+
+module _ (tb : Table) (a : Classes) (ea : ◌≡◌ {A = Result Classes Refusal} (Ok a) (classes_of tb)) where
+  classified : WellFormed tb × (a ≡ classes_in tb)
+  unfolding classes_of
+  classified = go (well_formed tb) refl ea
+    where
+      go : (b : Bool) → well_formed tb ≡ b → ◌≡◌ {A = Result Classes Refusal} (Ok a) (pick b (Ok (classes_in tb)) (Err NotWellFormed)) → WellFormed tb × (a ≡ classes_in tb)
+      go true q e = (formed tb q, cc)
+      go false q e = cc
+
+  pub few_faults : tb.faults ≤ 60
+  few_faults = classified.0.faults_fit
+
+  pub few_counted : a.count ≤ 61
+  few_counted = rw classified.1 (few_classes tb classified.0)
+
+module _ (bytes : List ℕ) (tb : Table) (lent : tb ≡ lent_table bytes) (d : List ℕ) where
+  pub classes_laid : (a : Classes) → ◌≡◌ {A = Result Classes Refusal} (Ok a) (classes_of tb) → (w : Result ℕ Refusal) (r : ℕ) (e : List ℕ)
+      → Lays a.count (take (tb.faults + 1) a.of) d w e → r ≡ packed (answer_number w) (answer_value w) → ClassesCall bytes d r e
+  classes_laid a ea w r e l er =
+      let v : ClassesWritten (columns tb) (Ok a) d r e = lays_call a.count (take (columns tb) a.of) d w r e l er in
+      rw (← lent, ← ea) v
+
+  pub classes_refused : (why : Refusal) → ◌≡◌ {A = Result Classes Refusal} (Err why) (classes_of tb) → (r : ℕ) → r ≡ packed (answer_number {A = ℕ} (Err why)) (answer_value (Err why)) → ClassesCall bytes d r d
+  classes_refused why ew r er =
+      let v : ClassesWritten (columns tb) (Err why) d r d = call_refusal why _ _ d r er in
+      rw (← lent, ← ew) v
+
+  -- ---- marks
+
+  pub marks_laid : (set : ℕ) → UndetectableIn tb (Ok set) → (w : Result ℕ Refusal) (r : ℕ) (e : List ℕ)
+      → Lays (total (bit set) tb.faults) (listed (bit set) tb.faults) d w e → r ≡ packed (answer_number w) (answer_value w) → UndetectableCall bytes d r e
+  marks_laid set u w r e l er =
+      let v : MarksWritten tb (Ok set) d r e = lays_call _ _ d w r e l er in
+      record { answer = Ok set; given = rw (← lent) u; writes = rw (← lent) v }
+
+  pub marks_refused : (why : Refusal) → UndetectableIn tb (Err why) → (r : ℕ) → r ≡ packed (answer_number {A = ℕ} (Err why)) (answer_value (Err why)) → UndetectableCall bytes d r d
+  marks_refused why u r er =
+      let v : MarksWritten tb (Err why) d r d = call_refusal why _ _ d r er in
+      record { answer = Err why; given = rw (← lent) u; writes = rw (← lent) v }
+
+-- a table whose undetectable faults are given is well formed
+pub given_formed : (tb : Table) (set : ℕ) → UndetectableIn tb (Ok set) → WellFormed tb
+given_formed tb set u = go (well_formed tb) refl u.number
   where
-    Few : Suspects → Type 0
-    Few a = a.count ≤ 61
-
-module _ (bytes : List ℕ) (tb : Table) (lent : tb ≡ lent_table bytes) (s : ℕ) (seen : List ℕ) (a : Suspects) (ea : a ≡ suspects_of tb s seen) where
-  pub few_found : a.count ≤ 61
-  few_found = rw ea (few_suspects tb s seen)
-
-  written : (d : List ℕ) (r : ℕ) (e : List ℕ) → SuspectsWritten a d r e → SuspectsCall bytes s seen d r e
-  written d r e w = rw (← lent, ← ea) w
-
-  pub suspects_0 : (d : List ℕ) (r : ℕ) (e : List ℕ) → a.verdict ≡ Accepted → CallWrites 0 a.count (take a.count a.columns) d r e → SuspectsCall bytes s seen d r e
-  suspects_0 d r e v w =
-      let w' : SuspectsWritten a d r e = rw v w in
-      written d r e w'
-
-  pub suspects_refused : (d : List ℕ) (why : Refusal) (n : ℕ) → a.verdict ≡ Refused why → n ≡ number_of why → SuspectsCall bytes s seen d n d
-  suspects_refused d why n v en =
-      let w : SuspectsWritten a d n d = rw (v, en) (call_refused (number_of why) a.count (take a.count a.columns) d (refusal_some why)) in
-      written d n d w
+    go : (b : Bool) → well_formed tb ≡ b → ◌≡◌ {A = ℕ} 0 (pick b 0 20) → WellFormed tb
+    go true q e = formed tb q
+    go false q e = absurd (omega arith)

@@ -2,5 +2,4 @@ pub mod Goals
 pub mod Pins
 pub mod Buffers
 pub mod Laid
-pub mod Marked
 pub mod Read

@@ -5,12 +5,11 @@ use mathlib.Core.Path.{◌≡◌, sym, ap, ◌∙◌}
 use Prim.Native.Nat.{ℕ}
 use native.Mathlib.Omega.{arith}
 use lib.ListN.{length}
-use Rattle.table.specs.Answers.{chosen_number, chosen_set}
-use Rattle.table.specs.declared.Chosen.{Chosen}
+use Rattle.std.specs.Prelude.{Result, Ok, Err}
+use Rattle.table.specs.Answers.{answer_number, answer_value}
+use Rattle.table.specs.declared.Refusal.{Refusal}
 use Rattle.table.specs.declared.Goal.{Goal}
 use Rattle.table.specs.declared.Table.{Table}
-use Rattle.table.specs.declared.Verdict.{Verdict}
-use Rattle.table.specs.declared.Verdict.TheVariants.{Accepted, Refused}
 use Rattle.book.specs.Reading.{read_book}
 use Rattle.cover.proofs.Pins.{set_aside_pins, essential_pins}
 use Rattle.classes.proofs.Pins.{undetectable_pins}
@@ -22,11 +21,11 @@ use Rattle.flat.specs.Writes.{CallWrites}
 use Rattle.tockbronze.specs.Calls.{ForGoal, GivesAside, GivesEssential, GivesChoice, AsideCall, EssentialCall, ChooseCall, CallCounts, ClassesCall, DictionaryCall, SheetCall, SuspectsCall, ReportCall, MarksWritten, UndetectableCall, ReadWritten, ReadCall}
 
 -- where the library's own call leaves one answer, the call for a goal leaves one number
-for_goal_pins : (Given : Table → Goal → Chosen → Type 0)
-    → ((tb : Table) (goal : Goal) (a b : Chosen) → Given tb goal a → Given tb goal b → a ≡ b)
+for_goal_pins : (Given : Table → Goal → Result ℕ Refusal → Type 0)
+    → ((tb : Table) (goal : Goal) (a b : Result ℕ Refusal) → Given tb goal a → Given tb goal b → a ≡ b)
     → (bytes : List ℕ) (goal r₁ r₂ : ℕ) → ForGoal Given bytes goal r₁ → ForGoal Given bytes goal r₂ → r₁ ≡ r₂
 for_goal_pins Given one bytes goal r₁ r₂ (inl (h, p)) (inl (k, q)) =
-    p.is ∙ (ap (λ (a : Chosen). packed (chosen_number a) (chosen_set a)) (one (lent_table bytes) (goal_of goal) p.answer q.answer p.given q.given) ∙ sym q.is)
+    p.is ∙ (ap (λ (a : Result ℕ Refusal). packed (answer_number a) (answer_value a)) (one (lent_table bytes) (goal_of goal) p.answer q.answer p.given q.given) ∙ sym q.is)
 for_goal_pins Given one bytes goal r₁ r₂ (inl (h, p)) (inr (k, q)) = absurd (omega arith)
 for_goal_pins Given one bytes goal r₁ r₂ (inr (h, p)) (inl (k, q)) = absurd (omega arith)
 for_goal_pins Given one bytes goal r₁ r₂ (inr (h, p)) (inr (k, q)) = p ∙ sym q
@@ -72,6 +71,6 @@ tockbronze_undetectable_pins bytes d r₁ r₂ e₁ e₂ a b =
 pub tockbronze_read_pins : (book d : List ℕ) (r₁ r₂ : ℕ) (e₁ e₂ : List ℕ) → ReadCall book d r₁ e₁ → ReadCall book d r₂ e₂ → (r₁ ≡ r₂) × (e₁ ≡ e₂)
 tockbronze_read_pins book d r₁ r₂ e₁ e₂ = by (read_book book).verdict
   where
-    by : (v : Verdict) → ReadWritten v (read_book book).place (read_book book).table d r₁ e₁ → ReadWritten v (read_book book).place (read_book book).table d r₂ e₂ → (r₁ ≡ r₂) × (e₁ ≡ e₂)
-    by Accepted a b = call_pins 0 (read_book book).place (bytes_of (read_book book).table) d r₁ r₂ e₁ e₂ a b
-    by (Refused why) (p, q) (p', q') = (p ∙ sym p', q ∙ sym q')
+    by : (v : Result (Unit {0}) Refusal) → ReadWritten v (read_book book).place (read_book book).table d r₁ e₁ → ReadWritten v (read_book book).place (read_book book).table d r₂ e₂ → (r₁ ≡ r₂) × (e₁ ≡ e₂)
+    by (Ok done) a b = call_pins 0 (read_book book).place (bytes_of (read_book book).table) d r₁ r₂ e₁ e₂ a b
+    by (Err why) (p, q) (p', q') = (p ∙ sym p', q ∙ sym q')

@@ -1,78 +1,88 @@
 // The calls on a table.
-use crate::{input, show};
+ghost use Rattle.std.specs.Prelude.{◌<◌};
+
+use crate::{case, show};
+use arrayvec::ArrayVec;
 use std::io;
-use table::{Classes, Goal, Suspects, Table};
+use table::{Classes, Goal, Refusal, Table};
 
-fn classes_shown(rt: &impl Print, classes: Classes) -> io::Result<()> {
-    let verdict = classes.verdict;
-    let of = classes.of;
-    show::verdict(rt, verdict)?;
+fn classes(rt: &impl Print, table: Table) -> io::Result<()> {
+    let answer = classes::classify(table);
+    show::verdict(rt, &answer)?;
+    let classes = answer.unwrap_or(Classes {
+        count: 0,
+        of: [0; 61],
+    });
     show::number(rt, classes.count as u64)?;
-    show::number(rt, show::mixed(0, &of))
-}
-
-fn suspects_shown(rt: &impl Print, suspects: Suspects) -> io::Result<()> {
-    let verdict = suspects.verdict;
-    let columns = suspects.columns;
-    show::verdict(rt, verdict)?;
-    show::number(rt, suspects.count as u64)?;
-    show::number(rt, show::mixed(0, &columns))
+    show::number(rt, show::mixed(0, &classes.of))
 }
 
 // The calls that take a table, and a goal at most.
 pub fn questions(rt: &impl Print, table: Table) -> io::Result<()> {
-    show::number(rt, if table::well_formed(table) { 1 } else { 0 })?;
-    classes_shown(rt, classes::classify(table))?;
-    show::faults(rt, classes::undetectable(table))?;
-    show::chosen(rt, cover::set_aside(table, Goal::Detect))?;
-    show::chosen(rt, cover::set_aside(table, Goal::Diagnose))?;
-    show::chosen(rt, cover::essential(table, Goal::Detect))?;
-    show::chosen(rt, cover::essential(table, Goal::Diagnose))
+    show::number(rt, u64::from(table::well_formed(table)))?;
+    classes(rt, table)?;
+    show::answer(rt, classes::undetectable(table))?;
+    show::answer(rt, cover::set_aside(table, Goal::Detect).map(u64::from))?;
+    show::answer(rt, cover::set_aside(table, Goal::Diagnose).map(u64::from))?;
+    show::answer(rt, cover::essential(table, Goal::Detect).map(u64::from))?;
+    show::answer(rt, cover::essential(table, Goal::Diagnose).map(u64::from))
 }
 
 // A goal, a cap.
 pub fn choose(rt: &impl Print, case: &[u8], table: Table) -> io::Result<()> {
-    let goal = input::goal(input::byte(case, 0));
-    show::chosen(rt, choice::choose(table, goal, input::set(case, 1)))
+    let goal = case::goal(case::byte(case, 0));
+    show::answer(
+        rt,
+        choice::choose(table, goal, case::set(case, 1)).map(u64::from),
+    )
 }
 
-fn write_dictionary(rt: &impl Print, table: Table, set: u32, buf: &mut [u8]) -> io::Result<()> {
-    show::written(rt, dictionary::dictionary(table, set, buf))?;
+// What a call writes to a lent buffer, whose length stands in two bytes of the case, and the byte that fills it behind them.
+pub fn lent<F: FnOnce(&mut [u8]) -> Result<usize, Refusal>>(
+    rt: &impl Print,
+    case: &[u8],
+    at: usize,
+    call: F,
+) -> io::Result<()>
+    requires { (at < 900) × F.IsAlwaysCallable call }
+{
+    let mut space = case::space(case::byte(case, at + 2));
+    let n = case::length(case, at, &space);
+    let buf = &mut space[..n];
+    let answer = call(buf);
+    show::answer(rt, answer.map(|n| n as u64))?;
     show::lent(rt, buf)
 }
 
-fn write_sheet(rt: &impl Print, table: Table, set: u32, buf: &mut [u8]) -> io::Result<()> {
-    show::written(rt, witness::witness_sheet(table, set, buf))?;
-    show::lent(rt, buf)
+// What a call writes of the table under a set, which stands before what `lent` reads.
+pub fn sheet<F: FnOnce(Table, u32, &mut [u8]) -> Result<usize, Refusal>>(
+    rt: &impl Print,
+    case: &[u8],
+    table: Table,
+    write: F,
+) -> io::Result<()>
+    requires { F.IsAlwaysCallable write }
+{
+    lent(rt, case, 4, |buf| write(table, case::set(case, 0), buf))
 }
 
-// A set, the lent buffer's length, and the byte that fills it.
-pub fn dictionary_of(rt: &impl Print, case: &[u8], table: Table) -> io::Result<()> {
-    let mut space = input::space(input::byte(case, 6));
-    let n = input::count(
-        input::short(input::byte(case, 4), input::byte(case, 5)),
-        &space,
-    );
-    write_dictionary(rt, table, input::set(case, 0), &mut space[..n])
-}
-
-// A set, the lent buffer's length, and the byte that fills it.
-pub fn sheet_of(rt: &impl Print, case: &[u8], table: Table) -> io::Result<()> {
-    let mut space = input::space(input::byte(case, 6));
-    let n = input::count(
-        input::short(input::byte(case, 4), input::byte(case, 5)),
-        &space,
-    );
-    write_sheet(rt, table, input::set(case, 0), &mut space[..n])
+// The suspects as 61 bytes, zero past the last.
+fn padded(suspects: &[u8]) -> [u8; 61] {
+    let mut columns = [0; 61];
+    for (to, from) in columns.iter_mut().zip(suspects) {
+        *to = *from;
+    }
+    columns
 }
 
 // A set, the observed outputs.
-pub fn suspects_for(rt: &impl Print, case: &[u8], table: Table) -> io::Result<()> {
-    if case.len() < 4 {
+pub fn suspects(rt: &impl Print, case: &[u8], table: Table) -> io::Result<()> {
+    let Some(outputs) = case.get(4..) else {
         return Ok(());
-    }
-    suspects_shown(
-        rt,
-        suspects::suspects_of(table, input::set(case, 0), &case[4..]),
-    )
+    };
+    let answer = suspects::suspects_of(table, case::set(case, 0), outputs);
+    show::verdict(rt, &answer)?;
+    let suspects = answer.unwrap_or(ArrayVec::new());
+    show::number(rt, suspects.len() as u64)?;
+    show::number(rt, show::mixed(0, &padded(suspects.as_slice())))
 }

@@ -3,7 +3,7 @@
 
 mod books;
 mod calls;
-mod input;
+mod case;
 mod show;
 
 use std::fs::File;
@@ -15,13 +15,13 @@ use table::Table;
 fn ask(rt: &impl Print, command: u8, case: &[u8], table: Table) -> io::Result<()> {
     match command {
         b'C' => calls::choose(rt, case, table),
-        b'D' => calls::dictionary_of(rt, case, table),
-        b'O' => books::text_of(rt, case),
+        b'D' => calls::sheet(rt, case, table, dictionary::dictionary),
+        b'O' => books::text(rt, case),
         b'P' => books::records(rt, case),
         b'Q' => calls::questions(rt, table),
         b'R' => books::record(rt, case, table),
-        b'S' => calls::suspects_for(rt, case, table),
-        b'W' => calls::sheet_of(rt, case, table),
+        b'S' => calls::suspects(rt, case, table),
+        b'W' => calls::sheet(rt, case, table, witness::witness_sheet),
         _ => Ok(()),
     }
 }
@@ -32,7 +32,7 @@ fn run(rt: &impl Print, command: u8, case: &[u8], table: Table) -> io::Result<Ta
         b'A' => show::given(rt, adder::full_adder()),
         b'B' => books::whole(rt, case),
         b'E' => show::given(rt, table::empty_table()),
-        b'F' => show::given(rt, input::table(case)),
+        b'F' => show::given(rt, case::table(case)),
         _ => {
             ask(rt, command, case, table)?;
             Ok(table)
@@ -57,23 +57,20 @@ fn next_case(
 
 // One case by its head: a command, and its length in two bytes.
 fn headed(rt: &impl Print, file: &mut impl Read, head: [u8; 3], table: Table) -> io::Result<Table> {
-    let mut space = input::space(0);
-    let n = input::count(input::short(head[1], head[2]), &space);
+    let mut space = case::space(0);
+    let n = case::length(&head, 1, &space);
     next_case(rt, file, head[0], &mut space[..n], table)
 }
 
 // The cases one after the other.
 fn all_cases(rt: &impl Print, file: &mut impl Read) -> io::Result<()> {
     let mut table = table::empty_table();
-    let mut left: u32 = 10000;
-    while left > 0 {
+    for _ in 0..10000 {
         let mut head = [0u8; 3];
         if input::read_full(file, &mut head)? < 3 {
             return Ok(());
         }
-        let next = headed(rt, file, head, table)?;
-        table = next;
-        left -= 1;
+        table = headed(rt, file, head, table)?;
     }
     Ok(())
 }

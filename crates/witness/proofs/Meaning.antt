@@ -11,6 +11,7 @@ use borrow.Author.Tests.{lt-ltb, eq-eqb, ne_eqb, not-true}
 use lib.Dec.{ltb}
 use lib.ListN.{length, get_or, drop}
 use lib.Seq.{get_or-drop, get_or-take}
+use Rattle.std.specs.Prelude.{Ok}
 use Rattle.folds.specs.Fold.{pick, count}
 use Rattle.folds.proofs.Below.{lt_or_ge, eq_or_ne}
 use Rattle.folds.proofs.Bools.{both_true, both_left, both_right, clash}
@@ -21,7 +22,6 @@ use Rattle.folds.proofs.Gather.{gather_length, gather_get}
 use Rattle.sets.specs.Sets.{has}
 use Rattle.table.specs.Table.{output_at, columns}
 use Rattle.table.specs.declared.Table.{Table}
-use Rattle.table.specs.declared.Written.TheVariants.{Bytes}
 use Rattle.terms.specs.Columns.{agrees, alike, lowest, lowest_of, class_number, outputs_under}
 use Rattle.terms.specs.Terms.{class_of, class_count}
 use Rattle.terms_laws.proofs.Classes.{alike_at, alike_sym, lowest_le, lowest_alike, lowest_of_lem, class_lowest, signature_of, signature_at}
@@ -185,7 +185,7 @@ module _ (tb : Table) (s c d : ℕ) (w : d < columns tb) (l : class_of tb c < cl
   sheet_place = witness_place_lem (output_at tb) tb.tests s (columns tb) c d _ _ _ w refl refl refl l
 
   -- and so it stands in the buffer that an accepted call leaves
-  pub written_witness : (n : ℕ) (b e : List ℕ) → WritesOnto (set_number tb s) (sheet_of tb s) b (Bytes n) e → get_or e (witness_place tb c d) 0 ≡ witness_of (output_at tb) tb.tests s c d
+  pub written_witness : (n : ℕ) (b e : List ℕ) → WritesOnto (set_number tb s) (sheet_of tb s) b (Ok n) e → get_or e (witness_place tb c d) 0 ≡ witness_of (output_at tb) tb.tests s c d
   written_witness n b e a =
       writes_byte (set_number tb s) (sheet_of tb s) b n e a (witness_place tb c d) (place_below (output_at tb) tb.tests s (columns tb) c d _ _ _ w refl refl refl l)
       ∙ sheet_place

@@ -1,13 +1,16 @@
 -- The rows of the sheet: what the code's tests say, and how many bytes each row has. Assumes nothing.
 use mathlib.Core.Bool.{Bool, true, false}
 use mathlib.Core.Logic.{⊎_elim}
-use mathlib.Core.Path.{◌≡◌, sym, ap, ◌∙◌}
+use mathlib.Core.Path.{◌≡◌, sym, ap, subst, ◌∙◌}
 use Prim.Native.Nat.{ℕ, zero, suc, ◌+◌, ◌-◌, ◌≤◌, ◌<◌}
 use native.Mathlib.Numerals.{add-one}
 use native.Mathlib.Omega.{arith}
 use borrow.Author.Tests.{lt-ltb, le-ltb}
 use lib.ListN.{length}
-use Rattle.folds.specs.Fold.{count}
+use Rattle.std.specs.declared.option.Option.{Option}
+use Rattle.std.specs.declared.option.Option.TheVariants.{None, Some}
+use Rattle.folds.specs.Fold.{count, first}
+use Rattle.folds.specs.Fold.{Finds}
 use Rattle.folds.proofs.Below.{below_cases}
 use Rattle.folds.proofs.Count.{count_none, count_more, count_yes, count_no, count_less}
 use Rattle.folds.proofs.Gather.{gather_length}
@@ -15,7 +18,7 @@ use Rattle.sets.specs.Sets.{has}
 use Rattle.sets.specs.Collect.{set_of}
 use Rattle.sets.proofs.Collect.{set_tells}
 use Rattle.terms.specs.Columns.{lowest}
-use Rattle.witness.specs.Witness.{above_in, lowest_test, witness_of, above, witnesses}
+use Rattle.witness.specs.Witness.{separates, above_in, lowest_test, witness_of, above, witnesses}
 
 module _ (out : ℕ → ℕ → ℕ) (tests : ℕ) where
   -- ---- the answers of `witness`
@@ -28,14 +31,30 @@ module _ (out : ℕ → ℕ → ℕ) (tests : ℕ) where
   unfolding witness_of
   witness_none s a b e = rw (← e, le-ltb tests tests (omega arith))
 
+  module _ (s a b n t : ℕ) (tests_are : n ≡ tests) where
+    pub some_witness : (o : Option ℕ) → Finds (separates out s a b) n o → o ≡ Some t → (t < n) × (t ≡ witness_of out tests s a b)
+    some_witness o f e =
+        let g : (t < n) × (t ≡ first (separates out s a b) n) = subst (Finds (separates out s a b) n) e f in
+        (g.0, witness_found s a b t (g.1 ∙ ap (first (separates out s a b)) tests_are) (omega (arith, g.0)))
+
+    pub none_witness : (o : Option ℕ) → Finds (separates out s a b) n o → o ≡ None → 255 ≡ witness_of out tests s a b
+    none_witness o f e =
+        let g : first (separates out s a b) n ≡ n = subst (Finds (separates out s a b) n) e f in
+        witness_none s a b (sym tests_are ∙ sym g ∙ ap (first (separates out s a b)) tests_are)
+
   -- ---- the set of the lowest columns answers for them
 
   pub low_in : (n lows i : ℕ) (r : Bool) → lows ≡ set_of (lowest out tests) n → i < n → r ≡ has lows i → r ≡ lowest out tests i
   low_in n lows i r e w h = h ∙ rw e (set_tells (lowest out tests) n i w)
 
-  pub above_in_lem : (n lows a i : ℕ) (r : Bool) → lows ≡ set_of (lowest out tests) n → i < n → r ≡ above_in lows a i → r ≡ above out tests a i
+  above_in_lem : (n lows a i : ℕ) → lows ≡ set_of (lowest out tests) n → i < n → above_in lows a i ≡ above out tests a i
   unfolding above_in above
-  above_in_lem n lows a i r e w h = h ∙ rw (e, set_tells (lowest out tests) n i w)
+  above_in_lem n lows a i e w = rw (e, set_tells (lowest out tests) n i w)
+
+  -- what answers the one test answers the other
+  pub above_computed : (P : ℕ → Bool → Type 0) (n m lows a : ℕ) → m ≡ n → lows ≡ set_of (lowest out tests) n
+      → ((i : ℕ) (b : Bool) → i < m → P i b → b ≡ above_in lows a i) → (i : ℕ) (b : Bool) → i < m → P i b → b ≡ above out tests a i
+  above_computed P n m lows a u e h i b w k = h i b w k ∙ above_in_lem n lows a i e (omega arith)
 
   -- ---- how many classes are above that of column a
 

@@ -1,5 +1,5 @@
 -- Where each row of the sheet starts, and how long the sheet is. Assumes nothing.
-use mathlib.Core.Bool.{Bool, true, false, not}
+use mathlib.Core.Bool.{Bool, true, false}
 use mathlib.Core.Path.{◌≡◌, refl, sym, ◌∙◌}
 use Prim.Native.Nat.{ℕ, zero, suc, ◌+◌, ◌-◌, ◌*◌, ◌/◌, ◌≤◌}
 use native.Mathlib.Nat.{mul-le-mul, lt_of_le_of_lt, add-mul, mul-add, one-mul, mul-one, zero-mul, mul-sub}
@@ -12,13 +12,12 @@ use mir.Val.{Fits}
 use Rattle.folds.specs.Fold.{count, joined}
 use Rattle.folds.proofs.Count.{count_none, count_yes, count_no, count_less, count_le}
 use Rattle.folds.proofs.Joined.{joined_none, rows_at, rows_stay}
-use Rattle.table.specs.Table.{cell_at}
-use Rattle.table.specs.Test.{Tested}
-use Rattle.table.specs.declared.Table.{Table}
-use Rattle.table.proofs.Formed.{few_columns}
+use Rattle.table.specs.Table.{output_at, columns}
+use Rattle.lent.specs.declared.given.Given.{Given}
 use Rattle.terms.specs.Columns.{lowest}
+use Rattle.terms.specs.Terms.{class_count}
 use Rattle.terms_laws.proofs.Classes.{lowest_zero}
-use Rattle.witness.specs.Witness.{witnesses, sheet_under}
+use Rattle.witness.specs.Witness.{witnesses, sheet_under, sheet_of}
 use Rattle.witness.proofs.Rows.{row_length}
 
 -- one class more
@@ -64,16 +63,21 @@ module _ (out : ℕ → ℕ → ℕ) (tests s n : ℕ) where
       let g : count (lowest out tests) n * count (lowest out tests) n ≡ k * k = rw e in
       omega arith
 
-  pub sheet_fits : (k room : ℕ) → k ≡ count (lowest out tests) n → k * (k - 1) / 2 ≤ room → length (sheet_under out tests s n) ≤ room
-  sheet_fits k room e h = rw (← sheet_size k e) h
+-- the sheet of k classes, and how many bytes it has
+module _ (g : Given) (k : ℕ) (e : k ≡ class_count g.table.table) where
+  pub sheet_bytes : k * (k - 1) / 2 ≡ length (sheet_of g.table.table g.set)
+  sheet_bytes = sheet_size (output_at g.table.table) g.table.table.tests g.set (columns g.table.table) k e
 
--- there is a class at least, that of column 0
-pub some_class : (out : ℕ → ℕ → ℕ) (tests f k : ℕ) → k ≡ count (lowest out tests) (f + 1) → 1 ≤ k
-some_class out tests f k e = omega (arith, count_less (lowest out tests) 0 (f + 1) (omega arith) (lowest_zero out tests))
+  pub sheet_fits : (room : ℕ) → k * (k - 1) / 2 ≤ room → length (sheet_of g.table.table g.set) ≤ room
+  sheet_fits room h = rw (← sheet_bytes) h
 
--- how many bytes they are fits
-pub pairs_fit : (tb : Table) (r : Bool) → Tested tb r → not r ≡ false → (k : ℕ) → k ≡ count (lowest (cell_at tb.cells) tb.tests) (tb.faults + 1) → Fits w64 (k * (k - 1))
-pairs_fit tb r t q k e =
-    let a : k ≤ 61 = omega (arith, few_columns tb r t q, count_le (lowest (cell_at tb.cells) tb.tests) (tb.faults + 1)) in
-    let b : k - 1 ≤ 61 = omega arith in
-    record { fits = lt_of_le_of_lt (mul-le-mul a b) (lit< tt) }
+  -- there is a class at least, that of column 0
+  pub some_class : 1 ≤ k
+  some_class = omega (arith, count_less (lowest (output_at g.table.table) g.table.table.tests) 0 (columns g.table.table) (omega arith) (lowest_zero (output_at g.table.table) g.table.table.tests))
+
+  -- how many bytes it has fits
+  pub pairs_fit : Fits w64 (k * (k - 1))
+  pairs_fit =
+      let a : k ≤ 61 = omega (arith, g.table.faults_fit, count_le (lowest (output_at g.table.table) g.table.table.tests) (columns g.table.table)) in
+      let b : k - 1 ≤ 61 = omega arith in
+      record { fits = lt_of_le_of_lt (mul-le-mul a b) (lit< tt) }

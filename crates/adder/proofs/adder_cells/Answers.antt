@@ -1,29 +1,30 @@
 use native.Mathlib.Omega.{arith}
-use borrow.Author.Rules.{rules}
+use Rattle.adder.specs.Adder.{nothing}
 use Rattle.adder.proofs.Fill.{answer_test, answer_fault, answers_start, answers_store, answers_end}
 use Rattle.table.proofs.Cells.{place_below}
 use Rattle.adder.proofs.adder_cells.Goals as goal
 
-pub loop-i-init : goal.loop-i-init
-loop-i-init c = (search rules, search answers_start)
+pub loop-t-init : goal.loop-t-init
+loop-t-init c = (c.answers-t-items.ensures, answers_start _ c.correct_cells-cells.ensures)
 
-pub overflow_cast-a : goal.overflow_cast-a
-overflow_cast-a c = omega (arith, answer_test _ _ c.nth_answer-a.ensures c.loop-i-test.true)
+pub place-requires : goal.place-requires
+unfolding nothing
+place-requires c =
+    let t = answer_test _ c.loop-t.invariant.0 _ _ c.from.ensures c.loop-t-test.true in
+    let f = answer_fault _ c.loop-t.invariant.0 _ _ c.from-in-loop-t.ensures c.loop-t-test.true in
+    (omega arith, omega arith)
 
-pub overflow_cast-a-in-loop-i : goal.overflow_cast-a-in-loop-i
-overflow_cast-a-in-loop-i c = omega (arith, answer_fault _ _ c.nth_answer-a.ensures c.loop-i-test.true)
+pub bounds-cells-place : goal.bounds-cells-place
+unfolding nothing
+bounds-cells-place c =
+    let t = answer_test _ c.loop-t.invariant.0 _ _ c.from.ensures c.loop-t-test.true in
+    let f = answer_fault _ c.loop-t.invariant.0 _ _ c.from-in-loop-t.ensures c.loop-t-test.true in
+    place_below _ _ _ c.place.ensures (omega arith) (omega arith)
 
-pub overflow_add-a : goal.overflow_add-a
-overflow_add-a c = omega (arith, answer_fault _ _ c.nth_answer-a.ensures c.loop-i-test.true)
-
-pub place-at-requires : goal.place-at-requires
-place-at-requires c = omega (arith, answer_test _ _ c.nth_answer-a.ensures c.loop-i-test.true, answer_fault _ _ c.nth_answer-a.ensures c.loop-i-test.true)
-
-pub bounds-cells-at : goal.bounds-cells-at
-bounds-cells-at c = place_below _ _ _ c.place-at.ensures (omega (arith, answer_test _ _ c.nth_answer-a.ensures c.loop-i-test.true)) (omega (arith, answer_fault _ _ c.nth_answer-a.ensures c.loop-i-test.true))
-
-pub loop-i-preserved : goal.loop-i-preserved
-loop-i-preserved c = (search rules, search answers_store)
+pub loop-t-preserved : goal.loop-t-preserved
+unfolding nothing
+loop-t-preserved c =
+    (c.loop-t.invariant.0, answers_store _ c.loop-t.invariant.0 _ _ _ _ _ c.from.ensures c.from-in-loop-t.ensures c.place.ensures c.loop-t.invariant.1)
 
 pub returns : goal.returns
-returns c = search answers_end
+returns c = answers_end _ _ _ (omega arith) (omega arith) c.loop-t.invariant.1

@@ -1,10 +1,6 @@
 use mathlib.Core.Path.{◌≡◌}
-use Prim.Native.Nat.{◌≤◌, ◌-◌}
-use Rattle.adder.specs.Adder.{answered}
+use Rattle.adder.specs.Adder.{answered, differing}
 use Rattle.adder.proofs.adder_cells.Given as goal
 
-abbrev pub invariant-loop-i : goal.invariant-loop-i
-invariant-loop-i l = (l.i ≤ 36) × (l.cells ≡ answered l.i)
-
-abbrev pub decreases-loop-i : goal.decreases-loop-i
-decreases-loop-i l = 36 - l.i
+abbrev pub invariant-loop-t : goal.invariant-loop-t
+invariant-loop-t l = (l.t-items ≡ differing) × (l.cells ≡ answered l.t-index)

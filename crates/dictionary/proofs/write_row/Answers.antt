@@ -1,29 +1,13 @@
-use native.Mathlib.Omega.{arith}
-use borrow.Author.Rules.{rules}
-use Rattle.folds.proofs.Count.{tally, count_start, count_fits}
-use Rattle.folds.proofs.Gather.{gathers, gather_start}
-use Rattle.folds.proofs.Onto.{keeps}
+use Rattle.std.proofs.Common.{rules}
+use Rattle.folds.specs.Fold.{gather}
+use Rattle.folds.proofs.Ends.{at_end}
+use Rattle.sets.specs.Sets.{has}
+use Rattle.table.specs.Table.{output_at}
 use Rattle.terms.specs.Columns.{output_of}
-use Rattle.dictionary.proofs.write_row.Goals.{then-has, else-has}
 use Rattle.dictionary.proofs.write_row.Goals as goal
 
-pub loop-i-init : goal.loop-i-init
-loop-i-init c = (search rules, count_start _, gather_start _ _ _, search rules)
-
-pub bounds-row-j : goal.bounds-row-j
-bounds-row-j c = search gathers
-
-pub overflow_add-j : goal.overflow_add-j
-overflow_add-j c = omega (arith, count_fits _ _ _ c.loop-i.invariant.1)
-
-pub loop-i-preserved : goal.loop-i-preserved
-unfolding output_of
-loop-i-preserved c = (
-  search rules,
-  elim c.if-has.branch [ then-has w ↦ search tally | else-has w ↦ search tally ],
-  elim c.if-has.branch [ then-has w ↦ search gathers | else-has w ↦ search gathers ],
-  elim c.if-has.branch [ then-has w ↦ search keeps | else-has w ↦ search keeps ],
-)
-
 pub returns : goal.returns
-returns c = search gathers
+unfolding output_of
+returns c =
+    at_end (gather (has c.args.given.now.set) (output_of (output_at c.args.given.now.table.table) c.args.c)) _ _ _ c.tests.ensures
+    (c.gather.ensures (has c.args.given.now.set) (output_of (output_at c.args.given.now.table.table) c.args.c) (search rules) (search rules))

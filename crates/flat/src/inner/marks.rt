@@ -1,65 +1,40 @@
 // A set of faults as bytes, one for each fault.
-ghost use Rattle.std.specs.Prelude.{◌≡◌, ◌≤◌, ◌<◌, length};
-ghost use Rattle.folds.specs.Fold.{listed, onto, total};
+ghost use Rattle.std.specs.Prelude.{◌≡◌, ◌≤◌, ◌<◌};
+ghost use Rattle.folds.specs.Fold.{listed, total};
 ghost use Rattle.sets.specs.Sets.{bit};
-ghost use Rattle.table.specs.Answers.{faults_set};
-ghost use Rattle.flat.specs.Writes.{CallWrites};
+ghost use Rattle.flat.specs.Writes.{Lays};
 
-use table::Faults;
-
-// The faults of an answer, and none of a refusal.
-fn set_of(answer: Faults) -> u64
-    ensures { result ≡ faults_set answer }
-{
-    match answer {
-        Faults::Set(set) => set,
-        Faults::Refused(_) => 0,
-    }
-}
+use crate::inner::buffers;
+use std::array;
+use table::Refusal;
 
 // 1 where the set has f, else 0.
+#[tactic(auto, using(crate::proofs::Marked::has_bit))]
 fn mark(set: u64, f: usize) -> u8
     requires { f < 60 }
     ensures { result ≡ bit set f }
 {
-    ((set >> f) % 2) as u8
+    u8::from(sets::inner::has(set, f))
+}
+
+fn marks_of(set: u64) -> [u8; 60]
+    ensures { result ≡ listed (bit set) 60 }
+{
+    array::from_fn(|f| mark(set, f))
 }
 
 // How many of the first n the set has.
-fn how_many(set: u64, n: usize) -> u64
+fn how_many(set: u64, n: usize) -> usize
     requires { n ≤ 60 }
     ensures { result ≡ total (bit set) n }
 {
-    let mut sum: u64 = 0;
-    let mut f = 0;
-    while f < n {
-        sum += mark(set, f) as u64;
-        f += 1;
-    }
-    sum
+    (0..n).map(|f| usize::from(mark(set, f))).sum()
 }
 
-// Writes a mark for each of the first n.
-fn write_marks(set: u64, n: usize, buf: &mut [u8])
-    requires { (n ≤ 60) × (n ≤ length buf.old) }
-    ensures { buf.new ≡ onto (listed (bit set) n) buf.old }
-{
-    let mut f = 0;
-    while f < n {
-        buf[f] = mark(set, f);
-        f += 1;
-    }
-}
-
-// The marks over the front of the buffer, with how many are 1.
-pub fn marked(answer: Faults, n: usize, buf: &mut [u8]) -> u64
+// A mark for each of the first n over the front of the buffer, with how many are 1.
+pub fn marked(set: u64, n: usize, buf: &mut [u8]) -> Result<usize, Refusal>
     requires { n ≤ 60 }
-    ensures { CallWrites 0 (total (bit (faults_set answer)) n) (listed (bit (faults_set answer)) n) buf.old result buf.new }
+    ensures { Lays (total (bit set) n) (listed (bit set) n) buf.old result buf.new }
 {
-    if buf.len() < n {
-        return 24;
-    }
-    let set = set_of(answer);
-    write_marks(set, n, buf);
-    how_many(set, n) * 256
+    buffers::laid(&marks_of(set)[..n], how_many(set, n), buf)
 }

@@ -1,76 +1,50 @@
-// A table lent as bytes.
-ghost use Rattle.std.specs.Prelude.{◌≡◌, ◌+◌, ◌≤◌, length};
-ghost use Rattle.folds.specs.Fold.{listed};
-ghost use Rattle.flat.specs.Flat.{byte_at, cells_filled, table_of, lent_table};
+// A table as bytes: the two counts, the cells row by row, the lines, the stuck values.
+ghost use Rattle.std.specs.Prelude.{◌≡◌, ◌≤◌, length};
+ghost use Rattle.flat.specs.Flat.{table_of, lent_table, bytes_of};
+ghost use Rattle.flat.specs.Writes.{Lays};
 
 use crate::inner::LENGTH;
-use table::Table;
-
-// The cells, each at its place.
-fn cells_from(bytes: &[u8]) -> [u8; 1464]
-    requires { length bytes.now ≡ 1586 }
-    ensures { result ≡ cells_filled bytes.now 1464 }
-{
-    let mut cells = [0; 1464];
-    let mut k = 0;
-    while k < 1464 {
-        let at = table::inner::place(k / 61, k % 61);
-        cells[at] = bytes[k + 2];
-        k += 1;
-    }
-    cells
-}
-
-// The 60 bytes from a place on.
-fn labels_from(bytes: &[u8], from: usize) -> [u8; 60]
-    requires { from + 60 ≤ length bytes.now }
-    ensures { result ≡ listed (byte_at bytes.now from) 60 }
-{
-    let mut labels = [0; 60];
-    let mut f = 0;
-    while f < 60 {
-        labels[f] = bytes[from + f];
-        f += 1;
-    }
-    labels
-}
-
-fn wide(byte: u8) -> usize
-    ensures { result ≡ byte }
-{
-    byte as usize
-}
+use table::{Refusal, Table};
 
 fn table_of(bytes: &[u8]) -> Table
     requires { length bytes.now ≡ 1586 }
     ensures { result ≡ table_of bytes.now }
 {
-    let tests = wide(bytes[0]);
-    let faults = wide(bytes[1]);
-    let cells = cells_from(bytes);
-    let lines = labels_from(bytes, 1466);
-    let stuck = labels_from(bytes, 1526);
-    Table {
-        tests,
-        faults,
-        cells,
-        lines,
-        stuck,
-    }
+    let mut table = table::empty_table();
+    table.tests = usize::from(bytes[0]);
+    table.faults = usize::from(bytes[1]);
+    table.cells.copy_from_slice(&bytes[2..1466]);
+    table.lines.copy_from_slice(&bytes[1466..1526]);
+    table.stuck.copy_from_slice(&bytes[1526..1586]);
+    table
 }
 
 // The table that is lent; one that is not well formed where the length is not a table's.
+#[tactic(auto, using(crate::proofs::Given::lent_none, crate::proofs::Given::lent_some))]
 pub fn table_in(bytes: &[u8]) -> Table
     ensures { result ≡ lent_table bytes.now }
 {
     if bytes.len() != LENGTH {
         return Table {
             tests: 25,
-            faults: 0,
-            cells: [0; 1464],
-            lines: [0; 60],
-            stuck: [0; 60],
+            ..table::empty_table()
         };
     }
     table_of(bytes)
+}
+
+// The bytes of the table over the front of the buffer; the place, where it has room.
+pub fn written(given: &Table, place: usize, buf: &mut [u8]) -> Result<usize, Refusal>
+    requires { (given.now.tests ≤ 24) × (given.now.faults ≤ 60) }
+    ensures { Lays place (bytes_of given.now) buf.old result buf.new }
+{
+    if buf.len() < LENGTH {
+        return Err(Refusal::BufferShort);
+    }
+    buf[0] = given.tests as u8;
+    buf[1] = given.faults as u8;
+    buf[2..1466].copy_from_slice(&given.cells);
+    buf[1466..1526].copy_from_slice(&given.lines);
+    buf[1526..1586].copy_from_slice(&given.stuck);
+    Ok(place)
 }

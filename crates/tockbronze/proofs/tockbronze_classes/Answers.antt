@@ -1,19 +1,13 @@
-use borrow.Author.Rules.{rules}
 use native.Mathlib.Omega.{arith}
-use mathlib.Core.Path.{refl}
-use Rattle.table.proofs.Formed.{well}
-use Rattle.tockbronze.proofs.Laid.{classes_20, few_counted, classes_0}
+use Rattle.flat.proofs.Room.{lays_small}
+use Rattle.tockbronze.proofs.Laid.{few_counted, classes_laid, classes_refused}
 use Rattle.tockbronze.proofs.tockbronze_classes.Goals as goal
 
-pub returns-then-not-well_formed : goal.returns-then-not-well_formed
-returns-then-not-well_formed c = search classes_20
+pub packed-requires : goal.packed-requires
+packed-requires c = lays_small _ _ _ _ _ c.laid.ensures (omega (arith, few_counted _ _ c.in-Ok.ensures))
 
-pub overflow_add-given : goal.overflow_add-given
-overflow_add-given c = omega (arith, (well _ _ c.well_formed-2.ensures (rw c.if-not-well_formed.false refl)).faults_fit)
+pub returns-in-Ok : goal.returns-in-Ok
+returns-in-Ok c = classes_laid _ _ c.table_in-given.ensures _ _ c.in-Ok.ensures _ _ _ c.laid.ensures c.packed.ensures
 
-pub laid-requires : goal.laid-requires
-laid-requires c =
-    (omega (arith, (well _ _ c.well_formed-2.ensures (rw c.if-not-well_formed.false refl)).faults_fit), search (rules, few_counted))
-
-pub returns : goal.returns
-returns c = search classes_0
+pub returns-in-Err : goal.returns-in-Err
+returns-in-Err c = classes_refused _ _ c.table_in-given.ensures _ _ c.in-Err.ensures _ c.packed-in-Err.ensures

@@ -1,12 +1,13 @@
-use borrow.Author.Rules.{rules}
-use Rattle.tockbronze.proofs.Laid.{few_found, suspects_0, suspects_refused}
+use native.Mathlib.Omega.{arith}
+use Rattle.flat.proofs.Room.{lays_small}
+use Rattle.tockbronze.proofs.Laid.{suspects_laid, suspects_refused}
 use Rattle.tockbronze.proofs.tockbronze_suspects.Goals as goal
 
-pub laid-requires : goal.laid-requires
-laid-requires c = (search (rules, few_found), search (rules, few_found))
+pub packed-requires : goal.packed-requires
+packed-requires c = lays_small _ _ _ _ _ c.laid.ensures (omega (arith, c.len-count.ensures.fits))
 
-pub returns-in-Accepted : goal.returns-in-Accepted
-returns-in-Accepted c = search suspects_0
+pub returns-in-Ok : goal.returns-in-Ok
+returns-in-Ok c = suspects_laid _ _ c.table_in.ensures _ _ _ _ c.in-Ok.ensures _ _ _ _ _ c.as_slice.ensures.value c.len-count.ensures.value c.laid.ensures c.packed.ensures
 
-pub returns-in-Refused : goal.returns-in-Refused
-returns-in-Refused c = search suspects_refused
+pub returns-in-Err : goal.returns-in-Err
+returns-in-Err c = suspects_refused _ _ c.table_in.ensures _ _ _ _ c.in-Err.ensures _ c.packed-in-Err.ensures

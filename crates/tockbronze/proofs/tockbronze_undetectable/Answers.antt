@@ -1,14 +1,19 @@
 use native.Mathlib.Omega.{arith}
-use mathlib.Core.Path.{refl}
-use Rattle.table.proofs.Formed.{well}
-use Rattle.tockbronze.proofs.Marked.{call_20, call_0}
+use Rattle.flat.proofs.Room.{lays_small}
+use Rattle.flat.proofs.Marked.{total_small}
+use Rattle.tockbronze.proofs.Laid.{given_formed, marks_laid, marks_refused}
 use Rattle.tockbronze.proofs.tockbronze_undetectable.Goals as goal
 
-pub returns-then-not-well_formed : goal.returns-then-not-well_formed
-returns-then-not-well_formed c = search call_20
-
 pub marked-requires : goal.marked-requires
-marked-requires c = let w = well _ _ c.well_formed-2.ensures (rw c.if-not-well_formed.false refl) in omega (arith, w.tests_fit, w.faults_fit)
+marked-requires c = let w = given_formed _ _ c.in-Ok.ensures in omega (arith, w.tests_fit, w.faults_fit)
 
-pub returns : goal.returns
-returns c = search call_0
+pub packed-requires : goal.packed-requires
+packed-requires c =
+    let w = given_formed _ _ c.in-Ok.ensures in
+    lays_small _ _ _ _ _ c.marked.ensures (omega (arith, w.tests_fit, w.faults_fit, total_small))
+
+pub returns-in-Ok : goal.returns-in-Ok
+returns-in-Ok c = marks_laid _ _ c.table_in-given.ensures _ _ c.in-Ok.ensures _ _ _ c.marked.ensures c.packed.ensures
+
+pub returns-in-Err : goal.returns-in-Err
+returns-in-Err c = marks_refused _ _ c.table_in-given.ensures _ _ c.in-Err.ensures _ c.packed-in-Err.ensures

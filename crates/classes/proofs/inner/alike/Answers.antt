@@ -1,18 +1,13 @@
-use borrow.Author.Rules.{rules}
-use Rattle.terms.specs.Columns.{alike}
-use Rattle.folds.proofs.Every.{scan}
+use Rattle.std.proofs.Common.{rules, refl}
+use Rattle.table.specs.Table.{output_at}
+use Rattle.terms.specs.Columns.{agrees, alike}
+use Rattle.folds.specs.Fold.{every}
+use Rattle.folds.proofs.Chains.{all_every}
+use Rattle.folds.proofs.Ends.{at_end}
 use Rattle.classes.proofs.inner.alike.Goals as goal
 
-pub loop-i-init : goal.loop-i-init
-loop-i-init c = search scan
-
-pub returns-then-not-agrees : goal.returns-then-not-agrees
-unfolding alike
-returns-then-not-agrees c = search scan
-
-pub loop-i-preserved : goal.loop-i-preserved
-loop-i-preserved c = (search rules, search scan)
-
 pub returns : goal.returns
-unfolding alike
-returns c = search scan
+unfolding alike agrees
+returns c =
+    at_end (every (agrees (output_at c.args.table.now.table) c.args.a c.args.b)) _ _ _ c.tests.ensures
+    (all_every _ _ (agrees (output_at c.args.table.now.table) c.args.a c.args.b) _ _ refl (search rules) (search rules) c.all.ensures.runs)

@@ -1,18 +1,8 @@
-use borrow.Author.Rules.{rules}
-use Rattle.folds.proofs.First.{seek}
-use Rattle.terms.specs.Columns.{lowest_of}
+use Rattle.std.proofs.Common.{rules, refl, ◌∙◌}
+use Rattle.terms.specs.Columns.{lowest_of, alike}
+use Rattle.folds.proofs.Chains.{find_first, finds_or}
 use Rattle.classes.proofs.inner.lowest_of.Goals as goal
-
-pub loop-i-init : goal.loop-i-init
-loop-i-init c = (search rules, search seek)
-
-pub returns-then-alike : goal.returns-then-alike
-unfolding lowest_of
-returns-then-alike c = search seek
-
-pub loop-i-preserved : goal.loop-i-preserved
-loop-i-preserved c = (search rules, search seek)
 
 pub returns : goal.returns
 unfolding lowest_of
-returns c = search seek
+returns c = c.unwrap_or.ensures ∙ finds_or _ _ _ (find_first _ _ (alike _ _ _) _ _ refl (search rules) (search rules) c.find.ensures.runs)

@@ -1,15 +1,7 @@
-use borrow.Author.Rules.{rules}
-use Rattle.folds.proofs.Every.{scan}
+use Rattle.std.proofs.Common.{rules, refl}
+use Rattle.grow.specs.Grow.{differs}
+use Rattle.folds.proofs.Chains.{all_every}
 use Rattle.grow.proofs.inner.is_new.Goals as goal
 
-pub loop-f-init : goal.loop-f-init
-loop-f-init c = search scan
-
-pub returns-then-not-differs : goal.returns-then-not-differs
-returns-then-not-differs c = search scan
-
-pub loop-f-preserved : goal.loop-f-preserved
-loop-f-preserved c = (search rules, search scan)
-
 pub returns : goal.returns
-returns c = search scan
+returns c = all_every _ _ (differs _ _ _ _) _ _ refl (search rules) (search rules) c.all.ensures.runs

@@ -3,4 +3,4 @@ use Rattle.items.proofs.inner.in_class.Goals as goal
 
 pub returns : goal.returns
 unfolding in_class
-returns c = rw c.wide.ensures
+returns c = rw c.from.ensures

@@ -1,18 +1,15 @@
-use borrow.Author.Rules.{rules}
-use Rattle.text.proofs.Items.{items_left}
+use Rattle.std.proofs.Common.{rules}
+use Rattle.text.proofs.Adds.{each, each_start}
 use Rattle.items.specs.Items.{members_text}
 use Rattle.items.proofs.inner.members.Goals.{then-in_class, else-in_class}
 use Rattle.items.proofs.inner.members.Goals as goal
 
-pub loop-left-init : goal.loop-left-init
-loop-left-init c = (search rules, search (items_left, rules))
+pub loop-c-init : goal.loop-c-init
+loop-c-init c = each_start _ _ _
 
-pub loop-left-preserved : goal.loop-left-preserved
-loop-left-preserved c = (search rules, elim c.if-in_class.branch [ then-in_class w ↦ search (items_left, rules) | else-in_class w ↦ search (items_left, rules) ])
-
-pub shape_of-buf : goal.shape_of-buf
-shape_of-buf c = search items_left
+pub loop-c-preserved : goal.loop-c-preserved
+loop-c-preserved c = elim c.if-in_class.branch [ then-in_class w ↦ rw w.page-is (search each) | else-in_class w ↦ rw w.page-is (search each) ]
 
 pub returns : goal.returns
 unfolding members_text
-returns c = search (items_left, rules)
+returns c = search rules

@@ -1,11 +1,8 @@
-use Rattle.items.specs.Items.{signature_text}
-use Rattle.items.proofs.Pieces.{list_none, list_some}
+use Rattle.std.proofs.Common.{rules}
+use Rattle.items.specs.Items.{output_item, signature_text}
+use Rattle.table.specs.Table.{output_at}
 use Rattle.items.proofs.inner.signature.Goals as goal
 
-pub returns-then-size-eq0 : goal.returns-then-size-eq0
-unfolding signature_text
-returns-then-size-eq0 c = search list_none
-
 pub returns : goal.returns
-unfolding signature_text
-returns c = search list_some
+unfolding signature_text output_item
+returns c = c.numbers.ensures (λ t. output_at c.args.table.now.table t c.args.c) (search rules)

@@ -1,11 +1,7 @@
+use Rattle.std.proofs.Common.{rules}
 use Rattle.items.specs.Items.{tests_text}
-use Rattle.items.proofs.Pieces.{list_none, list_some}
 use Rattle.items.proofs.inner.tests.Goals as goal
-
-pub returns-then-size-eq0 : goal.returns-then-size-eq0
-unfolding tests_text
-returns-then-size-eq0 c = search list_none
 
 pub returns : goal.returns
 unfolding tests_text
-returns c = search list_some
+returns c = c.numbers.ensures (λ t. t) (search rules)

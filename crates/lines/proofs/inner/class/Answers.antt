@@ -2,4 +2,4 @@ use Rattle.lines.proofs.Pieces.{class_done}
 use Rattle.lines.proofs.inner.class.Goals as goal
 
 pub returns : goal.returns
-returns c = search class_done
+returns c = let low-is = rw c.columns.ensures at c.lowest_in-lowest.ensures in search (class_done, low-is)

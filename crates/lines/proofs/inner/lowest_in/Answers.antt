@@ -1,15 +1,7 @@
-use borrow.Author.Rules.{rules}
-use Rattle.folds.proofs.First.{seek}
+use Rattle.std.proofs.Common.{refl, rules, ◌∙◌}
+use Rattle.folds.proofs.Chains.{find_first, finds_or}
+use Rattle.items.specs.Items.{in_class}
 use Rattle.lines.proofs.inner.lowest_in.Goals as goal
 
-pub loop-i-init : goal.loop-i-init
-loop-i-init c = (search rules, search seek)
-
-pub returns-then-in_class : goal.returns-then-in_class
-returns-then-in_class c = search seek
-
-pub loop-i-preserved : goal.loop-i-preserved
-loop-i-preserved c = (search rules, search seek)
-
 pub returns : goal.returns
-returns c = search seek
+returns c = c.unwrap_or.ensures ∙ finds_or _ _ _ (find_first _ _ (in_class _ _) _ _ refl (search rules) (search rules) c.find.ensures.runs)

@@ -1,5 +1,7 @@
-use Rattle.lines.proofs.Pieces.{refused_done}
+use Rattle.lines.specs.Text.{refused_text}
+use Rattle.text.proofs.Adds.{adds_then}
 use Rattle.lines.proofs.inner.refused.Goals as goal
 
 pub returns : goal.returns
-returns c = search refused_done
+unfolding refused_text
+returns c = search adds_then

@@ -1,5 +1,7 @@
-use Rattle.lines.proofs.Pieces.{set_done}
+use Rattle.lines.specs.Text.{set_line}
+use Rattle.text.proofs.Adds.{adds_then}
 use Rattle.lines.proofs.inner.set.Goals as goal
 
 pub returns : goal.returns
-returns c = search set_done
+unfolding set_line
+returns c = search adds_then

@@ -1,5 +1,7 @@
-use Rattle.lines.proofs.Pieces.{sizes_done}
+use Rattle.lines.specs.Text.{sizes_line}
+use Rattle.text.proofs.Adds.{adds_then}
 use Rattle.lines.proofs.inner.sizes.Goals as goal
 
 pub returns : goal.returns
-returns c = search sizes_done
+unfolding sizes_line
+returns c = search adds_then depth 8

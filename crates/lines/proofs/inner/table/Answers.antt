@@ -1,9 +1,14 @@
-use Rattle.lines.proofs.Numbers.{numbered}
-use Rattle.lines.proofs.Pieces.{formed_faults, formed_tests, table_done}
+use Rattle.table.proofs.Tested.{tested}
+use Rattle.lines.specs.Text.{table_text}
+use Rattle.lines.proofs.Numbers.{classes_are, numbered}
+use Rattle.text.proofs.Adds.{adds_then}
 use Rattle.lines.proofs.inner.table.Goals as goal
 
 pub classes-requires : goal.classes-requires
-classes-requires c = (search formed_tests, search formed_faults, search numbered)
+classes-requires c = numbered _ _ (tested _ c.requires) c.numbered-classed.ensures
 
 pub returns : goal.returns
-returns c = search table_done
+unfolding table_text
+returns c =
+    let sized = rw c.tests.ensures at c.sizes.ensures in
+    rw (classes_are _ _ (tested _ c.requires) c.numbered-classed.ensures) (adds_then _ _ _ _ _ sized (adds_then _ _ _ _ _ c.four_sets.ensures c.classes.ensures))

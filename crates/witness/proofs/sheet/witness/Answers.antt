@@ -1,16 +1,20 @@
-use borrow.Author.Rules.{rules}
-use Rattle.folds.proofs.First.{seek}
-use Rattle.witness.proofs.Rows.{witness_found, witness_none}
+use native.Mathlib.Omega.{arith}
+use Rattle.std.proofs.Common.{rules, refl}
+use Rattle.table.specs.Table.{output_at}
+use Rattle.folds.proofs.Chains.{find_first}
+use Rattle.witness.specs.Witness.{separates}
+use Rattle.witness.proofs.Rows.{some_witness, none_witness}
 use Rattle.witness.proofs.sheet.witness.Goals as goal
 
-pub loop-i-init : goal.loop-i-init
-loop-i-init c = (search rules, search seek)
+pub overflow_cast-result : goal.overflow_cast-result
+overflow_cast-result c =
+    let h = (some_witness (output_at c.args.given.now.table.table) _ c.args.given.now.set c.args.a c.args.b _ _ c.tests.ensures _ (find_first _ _ (separates _ _ _ _) _ _ refl (search rules) (search rules) c.find.ensures.runs) c.in-Some.is).0 in
+    record { fits = omega (arith, c.args.given.now.table.tests_fit, c.tests.ensures) }
 
-pub returns-then-separates : goal.returns-then-separates
-returns-then-separates c = search (witness_found, seek)
+pub returns-in-Some : goal.returns-in-Some
+returns-in-Some c =
+    (some_witness _ _ _ _ _ _ _ c.tests.ensures _ (find_first _ _ (separates _ _ _ _) _ _ refl (search rules) (search rules) c.find.ensures.runs) c.in-Some.is).1
 
-pub loop-i-preserved : goal.loop-i-preserved
-loop-i-preserved c = (search rules, search seek)
-
-pub returns : goal.returns
-returns c = search (witness_none, seek)
+pub returns-in-None : goal.returns-in-None
+returns-in-None c =
+    none_witness _ _ _ _ _ _ 0 c.tests.ensures _ (find_first _ _ (separates _ _ _ _) _ _ refl (search rules) (search rules) c.find.ensures.runs) c.in-None.is

@@ -1,28 +1,20 @@
-use native.Mathlib.Omega.{arith}
-use borrow.Author.Rules.{rules}
-use Rattle.folds.proofs.Count.{tally, count_start, count_fits}
-use Rattle.folds.proofs.Gather.{gathers, gather_start}
-use Rattle.folds.proofs.Onto.{keeps}
-use Rattle.witness.proofs.Rows.{above_in_lem}
-use Rattle.witness.proofs.sheet.write_row.Goals.{then-above, else-above}
+use mathlib.Core.Path.{sym, ap, ◌∙◌}
+use Rattle.std.proofs.Common.{rules}
+use Rattle.folds.specs.Fold.{count, gather}
+use Rattle.folds.proofs.Ends.{at_end}
+use Rattle.table.specs.Table.{output_at}
+use Rattle.witness.specs.Witness.{above, witness_of}
+use Rattle.witness.proofs.Rows.{above_computed}
 use Rattle.witness.proofs.sheet.write_row.Goals as goal
 
-pub loop-i-init : goal.loop-i-init
-loop-i-init c = (search rules, count_start _, gather_start _ _ _, search rules)
-
-pub bounds-row-j : goal.bounds-row-j
-bounds-row-j c = search (gathers, above_in_lem)
-
-pub overflow_add-j : goal.overflow_add-j
-overflow_add-j c = omega (arith, count_fits _ _ _ c.loop-i.invariant.1)
-
-pub loop-i-preserved : goal.loop-i-preserved
-loop-i-preserved c = (
-  search rules,
-  elim c.if-above.branch [ then-above w ↦ search (tally, above_in_lem) | else-above w ↦ search (tally, above_in_lem) ],
-  elim c.if-above.branch [ then-above w ↦ search (gathers, above_in_lem) | else-above w ↦ search (gathers, above_in_lem) ],
-  elim c.if-above.branch [ then-above w ↦ search keeps | else-above w ↦ search keeps ],
+pub gather-requires-clause-long : goal.gather-requires-clause-long
+gather-requires-clause-long c = (
+  above (output_at c.args.given.now.table.table) c.args.given.now.table.table.tests c.args.a,
+  above_computed _ _ _ _ _ _ _ c.columns.ensures c.requires.1 (search rules),
+  c.requires.2 ∙ ap (count (above _ _ _)) (sym c.columns.ensures),
 )
 
 pub returns : goal.returns
-returns c = search gathers
+returns c =
+    at_end (gather (above (output_at c.args.given.now.table.table) c.args.given.now.table.table.tests c.args.a) (witness_of _ _ _ _)) _ _ _ c.columns.ensures
+    (c.gather.ensures (above (output_at c.args.given.now.table.table) c.args.given.now.table.table.tests c.args.a) (witness_of _ _ _ _) (above_computed _ _ _ _ _ _ _ c.columns.ensures c.requires.1 (search rules)) (search rules))

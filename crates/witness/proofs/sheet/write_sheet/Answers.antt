@@ -1,33 +1,40 @@
-use borrow.Author.Rules.{rules}
-use Rattle.folds.proofs.Joined.{rows_zero, rows_start, rows_room, rows_at, rows_stay, rows_put, rows_pass, rows_end}
-use Rattle.folds.proofs.Onto.{keeps, part_length, kept_part, part_fits}
+use Prim.Native.Nat.{◌<◌}
+use native.Mathlib.Omega.{arith}
+use Rattle.std.proofs.Common.{rules}
+use Rattle.folds.proofs.Joined.{rows_zero, rows_start, rows_room, rows_at, rows_stay, rows_put, rows_pass}
+use Rattle.folds.proofs.Onto.{part_length, part_fits}
+use Rattle.table.specs.Table.{columns}
 use Rattle.witness.proofs.Rows.{low_in, left_start, left_no, left_some, left_above, left_size, left_yes}
-use Rattle.witness.proofs.sheet.write_sheet.Goals.{then-holds, else-holds}
+use Rattle.witness.proofs.sheet.write_sheet.Goals.{then-has, else-has}
 use Rattle.witness.proofs.sheet.write_sheet.Goals as goal
 
-pub loop-i-init : goal.loop-i-init
-loop-i-init c = (search rules, search left_start, rows_zero _ _, rows_start _ _ _, search rules)
+pub loop-c-init : goal.loop-c-init
+loop-c-init c = (search left_start, rows_zero _ _, rows_start _ _ _)
 
 pub overflow_sub-left : goal.overflow_sub-left
-overflow_sub-left c = search (left_some, low_in)
+overflow_sub-left c =
+    let l : c.loop-c.c < columns c.args.given.now.table.table = omega arith in
+    search (left_some, low_in)
 
-pub overflow_add-end : goal.overflow_add-end
-overflow_add-end c = search (part_fits, rows_room, left_size, low_in) fits 5000
+pub overflow_add-at : goal.overflow_add-at
+overflow_add-at c =
+    let l : c.loop-c.c < columns c.args.given.now.table.table = omega arith in
+    search (part_fits, rows_room, left_size, low_in) fits 5000
 
 pub slice_bounds-write_row-end : goal.slice_bounds-write_row-end
-slice_bounds-write_row-end c = search (rows_room, left_size, low_in)
+slice_bounds-write_row-end c =
+    let l : c.loop-c.c < columns c.args.given.now.table.table = omega arith in
+    search (rows_room, left_size, low_in)
 
 pub write_row-requires : goal.write_row-requires
-write_row-requires c = (search rules, search rules, search rules, search rules, search (part_length, rows_room, left_size, left_above, low_in))
+write_row-requires c =
+    let l : c.loop-c.c < columns c.args.given.now.table.table = omega arith in
+    (omega (arith, c.args.given.now.table.faults_fit), search rules, search (part_length, rows_room, left_size, left_above, low_in))
 
-pub loop-i-preserved : goal.loop-i-preserved
-loop-i-preserved c = (
-  search rules,
-  elim c.if-holds.branch [ then-holds w ↦ search (left_yes, low_in) | else-holds w ↦ search (left_no, low_in) ],
-  elim c.if-holds.branch [ then-holds w ↦ search (rows_at, left_size, low_in) | else-holds w ↦ search (rows_stay, low_in) ],
-  elim c.if-holds.branch [ then-holds w ↦ search (rows_put, left_size, low_in) | else-holds w ↦ search (rows_pass, low_in) ],
-  elim c.if-holds.branch [ then-holds w ↦ search kept_part | else-holds w ↦ search keeps ],
-)
-
-pub returns : goal.returns
-returns c = search rows_end
+pub loop-c-preserved : goal.loop-c-preserved
+loop-c-preserved c =
+    let l : c.loop-c.c < columns c.args.given.now.table.table = omega arith in (
+      elim c.if-has.branch [ then-has w ↦ search (left_yes, low_in) | else-has w ↦ search (left_no, low_in) ],
+      elim c.if-has.branch [ then-has w ↦ search (rows_at, left_size, low_in) | else-has w ↦ search (rows_stay, low_in) ],
+      elim c.if-has.branch [ then-has w ↦ search (rows_put, left_size, low_in) | else-has w ↦ search (rows_pass, low_in) ],
+    )

@@ -1,11 +1,5 @@
-use Rattle.flat.proofs.Marked.{sum_above, marked_short, marked_all}
+use Rattle.flat.proofs.Marked.{marked_first}
 use Rattle.flat.proofs.inner.marks.marked.Goals as goal
 
-pub returns-then-buf-n : goal.returns-then-buf-n
-returns-then-buf-n c = search marked_short
-
-pub overflow_mul-result : goal.overflow_mul-result
-overflow_mul-result c = search sum_above
-
 pub returns : goal.returns
-returns c = search marked_all
+returns c = marked_first _ _ _ _ _ _ _ c.how_many.ensures c.marks_of.ensures c.requires c.laid.ensures
