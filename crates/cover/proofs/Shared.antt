@@ -13,15 +13,13 @@ use lib.Dec.{eqb}
 use lib.ListN.{length, get_or, take}
 use lib.Seq.{take-suc, take-length}
 use lib.Pow.{pow_pos}
-use denote.Param.Members.{Mut, Called}
+use denote.Param.Members.{Mut}
 use denote.Ref.{Bor}
 use Rattle.std.specs.Prelude.{cond}
 use Rattle.std.specs.List.{fold}
 use Rattle.std.specs.Iterator.{ActsAsOnTwo}
-use Rattle.std.specs.Iterator.Runs.{SomeRun, WholeRun, EachRunFrom, CallKeepsClosure, IsFilterRun}
-use Rattle.std.specs.Iterator.Adapters.{filter_steps}
+use Rattle.std.specs.Iterator.Runs.{WholeRun}
 use Rattle.std.specs.Slice.Iter.{iter_rest, iter_steps}
-use Rattle.std.specs.declared.iter.Filter.{Filter}
 use Rattle.std.specs.declared.slice.Iter.{Iter}
 use Rattle.std.proofs.iter.runs.Sources.{iter_runs}
 use Rattle.std.proofs.lemmas.Grind.{fold-append}
@@ -75,23 +73,16 @@ module _ (masks : List ℕ) (t : ℕ) where
       go s e true q = shared_in i s _ true e (sym q) refl refl
       go s e false q = shared_on i s _ false e (sym q) refl refl
 
-  -- the masks that have test t, as the code goes over them
-  pub shared_by : {F G : Type 0} (g : Mut F (Bor (Bor ℕ) × Unit {0}) Bool) (f : F) (k : Mut G (ℕ × (Bor ℕ × Unit {0})) ℕ) (j : G) (a : Iter ℕ) (b : Filter (Iter ℕ) F) (r : ℕ)
-      → CallKeepsClosure g f → ((x : Bor (Bor ℕ)) (y : Bool) (f' : F) → Called g f (x, tt) y f' → y ≡ has x.now.now t)
-      → ActsAsOnTwo k j (λ s m. bit_and s m.now) → iter_rest a ≡ masks
-      → EachRunFrom (filter_steps iter_steps g) b (λ u. SomeRun iter_steps a (λ q. IsFilterRun u q g f))
-      → WholeRun (filter_steps iter_steps g) b (λ u. (h : ℕ → Bor ℕ → ℕ) → ActsAsOnTwo k j h → r ≡ fold h 16777215 u.items)
+  -- the masks, as the code goes over them
+  pub shared_by : {G : Type 0} (k : Mut G (ℕ × (Bor ℕ × Unit {0})) ℕ) (j : G) (a : Iter ℕ) (r : ℕ) → ActsAsOnTwo k j (λ s m. cond (has m.now t) (bit_and s m.now) s) → iter_rest a ≡ masks
+      → WholeRun iter_steps a (λ u. (h : ℕ → Bor ℕ → ℕ) → ActsAsOnTwo k j h → r ≡ fold h 16777215 u.items)
       → r ≡ set_of (λ u. covers masks u t) 24
   unfolding shared_to covers step
-  shared_by g f k j a b r keeps says acts rest sift (u, e, whole, run) =
-      let q = sift u u.seen e in
-      let c = iter_runs q.0 q.0.seen in
-      run (λ s m. bit_and s m.now) acts
-      ∙ q.2.6 (λ s m. bit_and s m.now) (λ s m. step s m.now) 16777215 (λ x y f' s d.
-      let o : Called g f (d.shown, tt) y f' = d.called in
-      (keeps (d.shown, tt) y f' o, ap (λ v. cond v (bit_and s x.now) s) (ap (λ (m : Bor ℕ). has m.now t) (sym d.shows) ∙ sym (says d.shown y f' o))))
-      ∙ c.5 step 16777215 (q.2.0 ∙ whole)
-      ∙ ap (fold step 16777215) (ap iter_rest q.1 ∙ rest ∙ sym (take-length masks))
+  shared_by k j a r acts rest (u, e, whole, run) =
+      let c = iter_runs u u.seen in
+      run (λ s m. cond (has m.now t) (bit_and s m.now) s) acts
+      ∙ c.5 step 16777215 whole
+      ∙ ap (fold step 16777215) (ap iter_rest e ∙ rest ∙ sym (take-length masks))
       ∙ shared_fold (length masks) (le_refl _)
 
 -- ---- the lower tests among them, as the code asks for them

@@ -12,9 +12,11 @@ use table::{Fitting, Goal};
 pub fn masks_of(table: &Fitting, goal: Goal) -> ArrayVec<u32, 1830>
     ensures { result.items ≡ masks_of table.now.table goal }
 {
+    // A copy, by which the compiler knows that what is pushed does not change the table, and tests the number of tests once.
+    let table = *table;
     let mut masks = ArrayVec::new();
     for a in 0..table.columns() {
-        crate::pairs::push_row(&mut masks, table, goal, a);
+        crate::pairs::push_row(&mut masks, &table, goal, a);
     }
     masks
 }

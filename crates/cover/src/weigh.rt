@@ -1,6 +1,7 @@
 // Tests weighed by the masks that they are in.
-ghost use Rattle.std.specs.Prelude.{◌≡◌, ◌-◌, ◌^◌, ◌≤◌, ◌<◌};
+ghost use Rattle.std.specs.Prelude.{◌≡◌, ◌-◌, ◌^◌, ◌≤◌, ◌<◌, bit_and, cond};
 ghost use Rattle.sets.specs.Collect.{set_of};
+ghost use Rattle.sets.specs.Sets.{has};
 ghost use Rattle.cover.specs.Kept.{mask_is, used, covers, outdone, kept, lone};
 
 // The masks of a goal's pairs, and how many tests the table has.
@@ -18,6 +19,19 @@ fn lower_tests(t: usize) -> u32
     ensures { result ≡ 2 ^ t - 1 }
 {
     (1 << t) - 1
+}
+
+// The tests that are shared still, with one mask more: only the mask's, where test t is in it. A choice and not a filter, since the
+// compiler then takes several masks at once.
+fn share(shared: u32, mask: u32, t: usize) -> u32
+    requires { t < 24 }
+    ensures { result ≡ cond (has mask t) (bit_and shared mask) shared }
+{
+    if sets::inner::has(u64::from(mask), t) {
+        shared & mask
+    } else {
+        shared
+    }
 }
 
 // Whether test t is the mask's only kept test.
@@ -47,8 +61,7 @@ impl Masks<'_> {
     {
         self.masks
             .iter()
-            .filter(|mask| sets::inner::has(u64::from(**mask), t))
-            .fold(16777215, |shared, mask| shared & *mask)
+            .fold(16777215, |shared, mask| share(shared, *mask, t))
     }
 
     // Whether some test outdoes test t: it is lower, and in every mask that t is in.

@@ -13,8 +13,8 @@ use Rattle.table.specs.Table.{cell_at, empty_table, place_of}
 use Rattle.table.specs.Test.{well_formed}
 use Rattle.table.specs.declared.Classes.{Classes}
 use Rattle.table.specs.declared.Refusal.{Refusal}
+use Rattle.table.specs.declared.Suspects.{Suspects}
 use Rattle.std.specs.Prelude.{Result, Ok, Err}
-use Rattle.arrayvec.specs.ArrayVec.{ArrayVec}
 use Rattle.table.proofs.Tested.{tested}
 use Rattle.terms.specs.Columns.{agrees, alike, apart, lowest, output_of}
 use Rattle.classes.specs.Classes.{answer_classes, classes_in, classes_of}
@@ -22,7 +22,7 @@ use Rattle.classes.proofs.Meaning.{count_given}
 use Rattle.lent.specs.Lent.{set_number, WritesOnto}
 use Rattle.dictionary.specs.Dictionary.{dictionary_of}
 use Rattle.witness.specs.Witness.{above, separates, sheet_of, witness_of}
-use Rattle.suspects.specs.Suspects.{answer_list, equal, suspect, suspects_of}
+use Rattle.suspects.specs.Suspects.{answer_suspects, equal, suspect, suspects_of}
 use Rattle.suspects.proofs.Meaning.{counted}
 use Rattle.choice_laws.proofs.Tables.{row_from, rows_from, small, two}
 use Rattle.choice_laws.proofs.Excluded.{two_formed}
@@ -67,7 +67,7 @@ unfolding two small row_from rows_from empty_table place_of cell_at count lowest
 three_classes = count_given two well_formed_lem (classes_of two) refl
 
 -- under test 0 both faults answer 1
-two_suspects : length (answer_list (suspects_of two 1 (1 ∷ []))) ≡ 2
+two_suspects : (answer_suspects (suspects_of two 1 (1 ∷ []))).count ≡ 2
 unfolding two small row_from rows_from empty_table place_of cell_at joined single has bit count suspect equal output_of
 two_suspects = counted two 1 (1 ∷ []) well_formed_lem known.1 refl (suspects_of two 1 (1 ∷ [])) refl
 
@@ -94,8 +94,8 @@ pub made_up_classes : (n : ℕ) → (n ≡ 3 → ⊥) → (c : Result Classes Re
 made_up_classes = no_other (λ (c : Result Classes Refusal). (answer_classes c).count) (classes_of two) 3 three_classes
 
 -- and the suspects
-pub made_up_suspects : (n : ℕ) → (n ≡ 2 → ⊥) → (r : Result (ArrayVec ℕ) Refusal) → r ≡ suspects_of two 1 (1 ∷ []) → length (answer_list r) ≡ n → ⊥
-made_up_suspects = no_other (λ (r : Result (ArrayVec ℕ) Refusal). length (answer_list r)) (suspects_of two 1 (1 ∷ [])) 2 two_suspects
+pub made_up_suspects : (n : ℕ) → (n ≡ 2 → ⊥) → (r : Result Suspects Refusal) → r ≡ suspects_of two 1 (1 ∷ []) → (answer_suspects r).count ≡ n → ⊥
+made_up_suspects = no_other (λ (r : Result Suspects Refusal). (answer_suspects r).count) (suspects_of two 1 (1 ∷ [])) 2 two_suspects
 
 -- "a reader or chooser that only ever refuses": such a version of `classify`
 pub classes_only_refusing : (why : Refusal) (c : Result Classes Refusal) → c ≡ classes_of two → c ≡ Err why → ⊥

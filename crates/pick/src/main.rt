@@ -15,7 +15,7 @@ fn print_report(rt: &impl Print, book: &[u8]) -> io::Result<()> {
 // The first 5,992 bytes of any input settle the answer.
 fn main(rt: HostRuntime) -> io::Result<()> {
     let mut book = [0u8; 5992];
-    match input::read_full(&mut rt.stdin(), &mut book) {
+    match input::inner::read_full(&mut rt.stdin(), &mut book) {
         Ok(n) => print_report(&rt, &book[..n]),
         Err(_) => rt.write_all(b"could not read\n"),
     }

@@ -85,11 +85,11 @@ module _ (book : List ℕ) (reading : Reading) (e : reading ≡ read_book book) 
       → Adds (refused_text m reading.place) b b' → Paged (IsText book) b b'
   page_refused why n m h f g v = record { text = refused_text m reading.place; is_text = rw (← e, h, g, f) refl; adds = v }
 
--- ---- the page holds the whole text; d is what the lent buffer held
+-- ---- the page, which was empty, holds the whole text; d is what the lent buffer held
 
-module _ (book page all : List ℕ) (b : (i : ℕ) → Fits w8 (get_or book i 0)) (p : Paged (IsText book) [] page) (e : all ≡ page) (f : length all ≤ page_size) where
+module _ (book start page all : List ℕ) (b : (i : ℕ) → Fits w8 (get_or book i 0)) (z : start ≡ []) (p : Paged (IsText book) start page) (e : all ≡ page) (f : length all ≤ page_size) where
   page_is : all ≡ p.text
-  page_is = e ∙ adds_whole p.text page (rw (← e) f) (text_most book p.text (λ i. (b i).fits) p.is_text) p.adds
+  page_is = e ∙ adds_whole p.text page (rw (← e) f) (text_most book p.text (λ i. (b i).fits) p.is_text) (rw z at p.adds)
 
   pub report_laid : (d : List ℕ) (r : Result ℕ Refusal) (d' : List ℕ) → WritesOnto 0 all d r d' → ReportIs book d r d'
   report_laid d r d' w = record { text = p.text; is_text = p.is_text; written = rw (← page_is) w }

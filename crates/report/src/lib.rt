@@ -1,7 +1,7 @@
 // The text that pick prints.
 #![tactic(auto)]
 
-ghost use Rattle.std.specs.Prelude.{[], ◌≡◌};
+ghost use Rattle.std.specs.Prelude.{◌≡◌};
 ghost use Rattle.report.specs.Answer.{IsTableText, IsText, Paged, ReportIs};
 ghost use Rattle.table.specs.WellFormed.{WellFormed};
 
@@ -25,25 +25,24 @@ fn table_page(page: &mut Page, table: Table)
 }
 
 // The text of a book.
-fn page_of(book: &[u8]) -> Page
-    ensures { Paged (IsText book.now) [] result }
+fn page_of(page: &mut Page, book: &[u8])
+    ensures { Paged (IsText book.now) page.old page.new }
 {
     let reading = book::read_book(book);
-    let mut page = Page::new();
     match reading.verdict {
-        Ok(()) => table_page(&mut page, reading.table),
+        Ok(()) => table_page(page, reading.table),
         Err(why) => {
             let number = usize::from(table::number(why));
-            lines::inner::refused(&mut page, number, reading.place);
+            lines::inner::refused(page, number, reading.place);
         }
     }
-    page
 }
 
 // Writes the text of a book to a lent buffer. No text is longer than 7,364 bytes.
 pub fn report(book: &[u8], buf: &mut [u8]) -> Result<usize, Refusal>
     ensures { ReportIs book.now buf.old result buf.new }
 {
-    let page = page_of(book);
+    let mut page = Page::new();
+    page_of(&mut page, book);
     lent::inner::laid(page.written(), buf)
 }

@@ -11,12 +11,13 @@ fn written(rt: &impl Print, answer: Result<usize, Refusal>) -> io::Result<()> {
 }
 
 // A row of the dictionary, and the suspects of its outputs.
+#[tactic(auto, using(suspects::proofs::Few::few_found))]
 fn row(rt: &impl Print, table: Table, set: u32, outputs: &[u8]) -> io::Result<()> {
     rt.write_all(b"row")?;
     show::bytes(rt, outputs)?;
     rt.write_all(b" :")?;
-    if let Ok(columns) = suspects::suspects_of(table, set, outputs) {
-        show::bytes(rt, columns.as_slice())?;
+    if let Ok(suspects) = suspects::suspects_of(table, set, outputs) {
+        show::bytes(rt, &suspects.columns[..suspects.count])?;
     }
     show::end(rt)
 }

@@ -1,4 +1,5 @@
 pub mod Answers
+pub mod Few
 pub mod Listed
 pub mod Meaning
 pub mod Named

@@ -8,14 +8,14 @@ use native.Mathlib.Numerals.{add-one}
 use native.Mathlib.Omega.{arith}
 use borrow.Author.Tests.{eq-eqb}
 use lib.Dec.{eqb}
-use lib.ListN.{length, get_or}
+use lib.ListN.{length, get_or, take}
 use Rattle.std.specs.Prelude.{Result, Ok}
-use Rattle.arrayvec.specs.ArrayVec.{ArrayVec}
-use Rattle.folds.specs.Fold.{pick, count, gather, single}
+use Rattle.folds.specs.Fold.{pick, count, gather, single, onto}
 use Rattle.folds.proofs.Below.{lt_or_ge}
 use Rattle.folds.proofs.Count.{count_less, count_mono, count_reaches}
 use Rattle.folds.proofs.Gather.{gather_length, gather_get}
 use Rattle.folds.proofs.Joined.{joined_none, joined_no}
+use Rattle.folds.proofs.Onto.{onto_front}
 use Rattle.folds.proofs.Bools.{pick_ap}
 use Rattle.sets.specs.Sets.{has, within}
 use Rattle.sets.proofs.Bits.{bit_zero, has_no, within_of}
@@ -23,10 +23,11 @@ use Rattle.table.specs.Answers.{answer_number}
 use Rattle.table.specs.Table.{output_at, columns}
 use Rattle.table.specs.Test.{well_formed}
 use Rattle.table.specs.declared.Refusal.{Refusal}
+use Rattle.table.specs.declared.Suspects.{Suspects}
 use Rattle.table.specs.declared.Table.{Table}
 use Rattle.terms.specs.Columns.{output_of}
 use Rattle.terms.specs.Terms.{signature}
-use Rattle.suspects.specs.Suspects.{itself, suspect, found_under, suspects_of, answer_list}
+use Rattle.suspects.specs.Suspects.{unlisted, itself, suspect, found_under, suspects_of, answer_suspects, answer_list}
 use Rattle.suspects.proofs.Answers.{suspect_same, same_suspect}
 
 -- ---- the list of the numbers that have p
@@ -49,13 +50,17 @@ module _ (p : ℕ → Bool) (n : ℕ) where
           → get_or (gather p itself n) i 0 < get_or (gather p itself n) j 0
       go (c, _, _, ec, gc) (d, _, _, ed, gd) = rw (gc, gd) (⊎_elim (λ k. k) (λ k. absurd (omega (arith, count_mono p d c k))) (lt_or_ge c d))
 
+  -- they are the front of what is laid over the zeros
+  front : take (count p n) (onto (gather p itself n) unlisted) ≡ gather p itself n
+  front = rw (← gather_length p itself n) (onto_front (gather p itself n) unlisted)
+
 -- ---- the paper's number
 
-pub suspects_number : (tb : Table) (s : ℕ) (seen : List ℕ) (a : Result (ArrayVec ℕ) Refusal) → a ≡ suspects_of tb s seen
+pub suspects_number : (tb : Table) (s : ℕ) (seen : List ℕ) (a : Result Suspects Refusal) → a ≡ suspects_of tb s seen
     → answer_number a ≡ pick (well_formed tb) (pick (within s tb.tests) (pick (eqb (length seen) (count (has s) tb.tests)) 0 25) 21) 20
 unfolding suspects_of
 suspects_number tb s seen a e =
-    let number : Result (ArrayVec ℕ) Refusal → ℕ = answer_number in
+    let number : Result Suspects Refusal → ℕ = answer_number in
     rw e (pick_ap number (well_formed tb) _ _
     ∙ ap (λ (m : ℕ). pick (well_formed tb) m 20) (pick_ap number (within s tb.tests) _ _
     ∙ ap (λ (m : ℕ). pick (within s tb.tests) m 21) (pick_ap number (eqb (length seen) (count (has s) tb.tests)) _ _)))
@@ -67,18 +72,23 @@ module _ (tb : Table) (s : ℕ) (seen : List ℕ) (formed : well_formed tb ≡ t
   unfolding suspects_of
   answer_found = rw (formed, known, eq-eqb _ _ each)
 
-  module _ (a : Result (ArrayVec ℕ) Refusal) (e : a ≡ suspects_of tb s seen) where
+  module _ (a : Result Suspects Refusal) (e : a ≡ suspects_of tb s seen) where
+    pub counted : (answer_suspects a).count ≡ count (suspect (output_at tb) tb.tests s seen) (columns tb)
+    unfolding found_under
+    counted = rw (e, answer_found)
+
     columns_are : answer_list a ≡ gather (suspect (output_at tb) tb.tests s seen) itself (columns tb)
     unfolding found_under
-    columns_are = rw (e, answer_found)
+    columns_are = rw (e, answer_found) (front (suspect (output_at tb) tb.tests s seen) (columns tb))
 
-    pub counted : length (answer_list a) ≡ count (suspect (output_at tb) tb.tests s seen) (columns tb)
-    counted = rw columns_are (gather_length (suspect (output_at tb) tb.tests s seen) itself (columns tb))
+    -- the list is as long as the count
+    pub list_counted : length (answer_list a) ≡ count (suspect (output_at tb) tb.tests s seen) (columns tb)
+    list_counted = rw columns_are (gather_length (suspect (output_at tb) tb.tests s seen) itself (columns tb))
 
     -- what is listed is a column whose signature equals the outputs,
     pub listed_suspect : (i : ℕ) → i < length (answer_list a) → (get_or (answer_list a) i 0 < columns tb) × (signature tb s (get_or (answer_list a) i 0) ≡ seen)
     listed_suspect i w =
-        let x = one_there (suspect (output_at tb) tb.tests s seen) (columns tb) i (rw (← counted) w) in
+        let x = one_there (suspect (output_at tb) tb.tests s seen) (columns tb) i (rw (← list_counted) w) in
         rw (columns_are, x.4) (x.1, suspect_same (output_at tb) tb.tests s seen x.0 x.2)
 
     -- and every such column is listed
@@ -86,13 +96,13 @@ module _ (tb : Table) (s : ℕ) (seen : List ℕ) (formed : well_formed tb ≡ t
     suspect_listed c w h =
         let p : suspect (output_at tb) tb.tests s seen c ≡ true = same_suspect (output_at tb) tb.tests s seen c h in (
           count (suspect (output_at tb) tb.tests s seen) c,
-          rw counted (omega (arith, count_less (suspect (output_at tb) tb.tests s seen) c (columns tb) w p)),
+          rw list_counted (omega (arith, count_less (suspect (output_at tb) tb.tests s seen) c (columns tb) w p)),
           rw columns_are (at_place (suspect (output_at tb) tb.tests s seen) (columns tb) c w p),
         )
 
     -- the list rises strictly
     pub list_rises : (i j : ℕ) → i < j → j < length (answer_list a) → get_or (answer_list a) i 0 < get_or (answer_list a) j 0
-    list_rises i j l w = rw columns_are (rises (suspect (output_at tb) tb.tests s seen) (columns tb) i j l (rw (← counted) w))
+    list_rises i j l w = rw columns_are (rises (suspect (output_at tb) tb.tests s seen) (columns tb) i j l (rw (← list_counted) w))
 
 -- ---- "The empty set with no outputs gives every column."
 
@@ -103,7 +113,7 @@ no_outputs : (f : ℕ → ℕ) (n : ℕ) → gather (has 0) f n ≡ []
 no_outputs f zero = joined_none (has 0) (single f)
 no_outputs f (suc n) = rw (← add-one n) (joined_no (has 0) (single f) n (no_test n) ∙ no_outputs f n)
 
-pub empty_set : (tb : Table) → well_formed tb ≡ true → (a : Result (ArrayVec ℕ) Refusal) → a ≡ suspects_of tb 0 [] → (c : ℕ) → c < columns tb → (i : ℕ) × (i < length (answer_list a)) × (get_or (answer_list a) i 0 ≡ c)
+pub empty_set : (tb : Table) → well_formed tb ≡ true → (a : Result Suspects Refusal) → a ≡ suspects_of tb 0 [] → (c : ℕ) → c < columns tb → (i : ℕ) × (i < length (answer_list a)) × (get_or (answer_list a) i 0 ≡ c)
 empty_set tb formed a e c w =
     suspect_listed tb 0 [] formed (within_of 0 tb.tests (λ t b. absurd (omega (arith, bit_zero t))))
     (ap length (sym (no_outputs itself tb.tests)) ∙ gather_length (has 0) itself tb.tests) a e c w (no_outputs (output_of (output_at tb) c) tb.tests)

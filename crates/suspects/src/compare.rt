@@ -3,8 +3,8 @@ ghost use Rattle.std.specs.Prelude.{◌≡◌, length};
 ghost use Rattle.folds.specs.Fold.{count};
 ghost use Rattle.sets.specs.Sets.{has};
 
-use arrayvec::ArrayVec;
 use lent::Given;
+use table::Suspects;
 
 // The outputs observed in the tests of a set, one for each.
 #[derive(Clone, Copy)]
@@ -16,9 +16,8 @@ pub struct Observed<'a> {
 
 impl<'a> Observed<'a> {
     ghost use Rattle.std.specs.Prelude.{◌<◌};
-    ghost use Rattle.folds.specs.Fold.{gather};
     ghost use Rattle.table.specs.Table.{output_at, columns};
-    ghost use Rattle.suspects.specs.Suspects.{suspect, itself};
+    ghost use Rattle.suspects.specs.Suspects.{suspect, found_under};
 
     // Whether column c is a suspect.
     fn is_suspect(&self, c: usize) -> bool
@@ -35,15 +34,17 @@ impl<'a> Observed<'a> {
     }
 
     // The suspects among the columns, in rising order.
-    pub fn suspects(&self) -> ArrayVec<u8, 61>
-        ensures { result.items ≡ gather (suspect (output_at self.now.given.now.table.table) self.now.given.now.table.table.tests self.now.given.now.set self.now.outputs.now) itself (columns self.now.given.now.table.table) }
+    pub fn suspects(&self) -> Suspects
+        ensures { result ≡ found_under (output_at self.now.given.now.table.table) self.now.given.now.table.table.tests self.now.given.now.set self.now.outputs.now (columns self.now.given.now.table.table) }
     {
-        let mut list = ArrayVec::new();
+        let mut columns = [0; 61];
+        let mut count = 0;
         for c in 0..self.given.table.columns() {
             if self.is_suspect(c) {
-                list.push(c as u8);
+                columns[count] = c as u8;
+                count += 1;
             }
         }
-        list
+        Suspects { count, columns }
     }
 }

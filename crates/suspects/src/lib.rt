@@ -4,16 +4,15 @@
 ghost use Rattle.std.specs.Prelude.{◌≡◌};
 ghost use Rattle.suspects.specs.Suspects.{suspects_of};
 
-use arrayvec::ArrayVec;
 use compare::Observed;
 use lent::Given;
-use table::{Refusal, Table};
+use table::{Refusal, Suspects, Table};
 
 mod compare;
 
 // The suspects of a table for observed outputs, one for each test of the set.
-#[tactic(auto, unfolding(crate::specs::Suspects::suspects_of, crate::specs::Suspects::found_under))]
-pub fn suspects_of(table: Table, set: u32, outputs: &[u8]) -> Result<ArrayVec<u8, 61>, Refusal>
+#[tactic(auto, unfolding(crate::specs::Suspects::suspects_of))]
+pub fn suspects_of(table: Table, set: u32, outputs: &[u8]) -> Result<Suspects, Refusal>
     ensures { result ≡ suspects_of table set outputs.now }
 {
     let given = Given::of(table, set)?;

@@ -68,6 +68,13 @@ pub struct Classes {
     pub of: [u8; 61],
 }
 
+// The number of suspects, and their columns in rising order; zero past the last, as `suspects_of` promises.
+#[derive(Clone, Copy)]
+pub struct Suspects {
+    pub count: usize,
+    pub columns: [u8; 61],
+}
+
 pub fn empty_table() -> Table
     ensures { result ≡ empty_table }
 {

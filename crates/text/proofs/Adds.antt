@@ -2,15 +2,14 @@
 use mathlib.Core.List.{List, [], ◌∷◌, ◌++◌, append_assoc}
 use mathlib.Core.Bool.{Bool, true, false}
 use mathlib.Core.Path.{◌≡◌, refl, sym, ap, ◌∙◌}
-use Prim.Native.Nat.{ℕ, zero, suc, ◌+◌, ◌-◌, ◌%◌, ◌≤◌, ◌<◌, ◌^◌, min}
+use Prim.Native.Nat.{ℕ, zero, suc, ◌+◌, ◌%◌, ◌≤◌, ◌<◌, ◌^◌}
+use native.Mathlib.Numerals.{add-one}
 use native.Mathlib.Omega.{arith}
-use lib.ListN.{length, take}
-use lib.Seq.{take_all}
+use lib.ListN.{length, take, get_or}
+use lib.Seq.{take_all, take-suc}
 use Rattle.std.proofs.lemmas.Fmt.{decimal_digit, decimal_step}
 use Rattle.std.proofs.lemmas.List.{append-nil, length-take-le, take-append-le}
-use Rattle.std.proofs.lemmas.Slice.{take-put_mid}
 use Rattle.std.specs.Fmt.{decimal}
-use borrow.Rule.Slice.PartMut.{put_mid}
 use Rattle.folds.specs.Fold.{always, joined}
 use Rattle.folds.proofs.Joined.{joined_no, joined_none, joined_yes}
 use Rattle.text.proofs.Decimal.{by_digits, decimal_more, decimal_one}
@@ -32,6 +31,10 @@ adds_then xs ys b b' b'' v w = record {
       ∙ ap (λ (l : List ℕ). take page_size l) (append_assoc b xs ys);
 }
 
+-- a word byte by byte
+pub word_more : (i : ℕ) (word b₀ b d : List ℕ) → i < length word → Adds (take i word) b₀ b → Adds (get_or word i 0 ∷ []) b d → Adds (take (i + 1) word) b₀ d
+word_more i word b₀ b d l v w = rw (add-one i, take-suc word i 0 l) (adds_then (take i word) (get_or word i 0 ∷ []) b₀ b d v w)
+
 -- a number's decimal is what the library prints of it
 pub decimal_printed : (n : ℕ) → n < 2 ^ 64 → decimal_of n ≡ decimal n
 decimal_printed = by_digits (λ n. n < 2 ^ 64 → decimal_of n ≡ decimal n)
@@ -40,29 +43,9 @@ decimal_printed = by_digits (λ n. n < 2 ^ 64 → decimal_of n ≡ decimal n)
 
 -- ---- a page's bytes and its place
 
--- of a word no more than the page takes
-word_front : (k n : ℕ) (w : List ℕ) → min (length w) k ≤ n → take k (take n w) ≡ take k w
-word_front zero n w h = refl
-word_front (suc k) zero [] h = refl
-word_front (suc k) (suc n) [] h = refl
-word_front (suc k) zero (x ∷ w) h = absurd (omega arith)
-word_front (suc k) (suc n) (x ∷ w) h = ap (λ (l : List ℕ). x ∷ l) (word_front k n w (omega arith))
-
-behind_front : (k n : ℕ) (b w : List ℕ) → min (length w + length b) k ≤ n + length b → take k (b ++ take n w) ≡ take k (b ++ w)
-behind_front zero n b w h = refl
-behind_front (suc k) n [] w h = word_front (suc k) n w (omega arith)
-behind_front (suc k) n (y ∷ b) w h = ap (λ (l : List ℕ). y ∷ l) (behind_front k n b w (omega arith))
-
 pub adds_past : (at : ℕ) (piece bytes b : List ℕ) → length bytes ≡ page_size → at ≤ page_size → page_size ≤ at → take at bytes ≡ b → Adds piece b b
 adds_past at piece bytes b l h f v = record {
   page = sym (take-append-le page_size b piece (omega (arith, ap (λ (l : List ℕ). length l) v, length-take-le at bytes (omega (arith, l)))));
-}
-
-pub adds_word : (at n : ℕ) (word bytes part b : List ℕ) → length bytes ≡ page_size → at ≤ page_size → n ≤ length word → min (at + length word) page_size ≤ at + n → take at bytes ≡ b → part ≡ take n word
-    → Adds word b (take (at + n) (put_mid at (at + n - at) bytes part))
-adds_word at n word bytes part b l h k m v e = record {
-  page = ap (λ (l : List ℕ). take page_size l) (take-put_mid at (at + n - at) bytes part (at + n) (omega (arith, ap (λ (l : List ℕ). length l) e, length-take-le n word k)) (omega arith))
-      ∙ rw (v, e) (behind_front page_size n b word (omega (arith, ap (λ (l : List ℕ). length l) v, length-take-le at bytes (omega (arith, l)))));
 }
 
 -- ---- a loop that writes a piece for each number that has p

@@ -53,10 +53,9 @@ impl Page {
     pub fn word(&mut self, word: &[u8])
         ensures { Adds word.now self.old self.new }
     {
-        let at = self.at;
-        let n = word.len().min(SIZE - at);
-        self.bytes[at..at + n].copy_from_slice(&word[..n]);
-        self.at = at + n;
+        for byte in word {
+            self.put(*byte);
+        }
     }
 
     pub fn decimal(&mut self, n: usize)

@@ -1,11 +1,10 @@
 -- The calls for a goal. Assumes nothing.
 use mathlib.Core.List.{List}
 use mathlib.Core.Logic.{◌⊎◌, inl, inr, ⊎_elim}
-use mathlib.Core.Path.{◌≡◌, refl, sym, ap, ◌∙◌}
+use mathlib.Core.Path.{◌≡◌, refl, sym, ◌∙◌}
 use Prim.Native.Nat.{ℕ, ◌≤◌, ◌<◌}
 use native.Mathlib.Omega.{arith}
-use Rattle.std.specs.Prelude.{Result, Ok, Err, MatchResult}
-use Rattle.std.specs.Result.{IsOkAnd}
+use Rattle.std.specs.Prelude.{Result, Ok, Err}
 use Rattle.folds.proofs.Below.{lt_or_ge}
 use Rattle.table.specs.Answers.{answer_number, answer_value}
 use Rattle.table.specs.Goals.{goal_number}
@@ -19,27 +18,16 @@ use Rattle.flat.specs.Packed.{packed, goal_of, unknown_goal, cap_of}
 use Rattle.flat.proofs.Numbers.{cap_high, cap_low}
 use Rattle.tockbronze.specs.Calls.{ForGoal, FromChosen}
 
-pub ok_weaker : (b : Result ℕ Refusal) (P Q : ℕ → Type 0) → IsOkAnd b P → ((y : ℕ) → P y → Q y) → IsOkAnd b Q
-ok_weaker (Ok y) P Q p imp = imp y p
-ok_weaker (Err why) P Q p imp = absurd p
-
--- an answer whose set is given as another number's type
-same_answer : (a b : Result ℕ Refusal) → MatchResult a (λ x. IsOkAnd b (λ y. y ≡ x)) (λ why. b ≡ Err why) → b ≡ a
-same_answer (Ok x) (Ok y) e = ap Ok e
-same_answer (Ok x) (Err why) e = absurd e
-same_answer (Err why) b e = e
-
 goal_back : (g : Goal) → (goal_number g ≤ 1) × (goal_of (goal_number g) ≡ g)
 unfolding goal_of
 goal_back Detect = (omega arith, refl)
 goal_back Diagnose = (omega arith, refl)
 
 module _ (Given : Table → Goal → Result ℕ Refusal → Type 0) (bytes : List ℕ) (goal r : ℕ) (tb : Table) (lent : tb ≡ lent_table bytes) where
-  pub for_goal : (g : Goal) (a b : Result ℕ Refusal) → goal_number g ≡ goal → Given tb g a
-      → MatchResult a (λ x. IsOkAnd b (λ y. y ≡ x)) (λ why. b ≡ Err why) → r ≡ packed (answer_number b) (answer_value b) → ForGoal Given bytes goal r
-  for_goal g a b e given m er =
+  pub for_goal : (g : Goal) (a : Result ℕ Refusal) → goal_number g ≡ goal → Given tb g a → r ≡ packed (answer_number a) (answer_value a) → ForGoal Given bytes goal r
+  for_goal g a e given er =
       let k = goal_back g in
-      inl (rw (← e) k.0, record { answer = a; given = rw (← lent, ← e, k.1) given; is = er ∙ rw (same_answer a b m) refl })
+      inl (rw (← e) k.0, record { answer = a; given = rw (← lent, ← e, k.1) given; is = er })
 
 -- a choice within 25 tests is refused as one within any cap above 24
 over : (tb : Table) (goal : Goal) (cap : ℕ) → 24 < cap → (a : Result ℕ Refusal) → ChoiceIs tb goal 25 a → ChoiceIs tb goal cap a

@@ -4,9 +4,8 @@ use mathlib.Core.List.{List}
 use mathlib.Core.Path.{◌≡◌, refl}
 use Prim.Native.Nat.{ℕ, ◌+◌, ◌≤◌}
 use native.Mathlib.Omega.{arith}
-use lib.ListN.{take, length}
+use lib.ListN.{take}
 use Rattle.std.specs.Prelude.{Result, Ok, Err}
-use Rattle.arrayvec.specs.ArrayVec.{ArrayVec}
 use Rattle.folds.specs.Fold.{pick, listed, total}
 use Rattle.sets.specs.Sets.{bit}
 use Rattle.table.specs.Answers.{answer_number, answer_value}
@@ -16,6 +15,7 @@ use Rattle.table.specs.WellFormed.{WellFormed}
 use Rattle.table.specs.declared.Classes.{Classes}
 use Rattle.table.specs.declared.Refusal.{Refusal}
 use Rattle.table.specs.declared.Refusal.TheVariants.{NotWellFormed}
+use Rattle.table.specs.declared.Suspects.{Suspects}
 use Rattle.table.specs.declared.Table.{Table}
 use Rattle.table.proofs.Tested.{formed}
 use Rattle.classes.specs.Classes.{classes_of, classes_in}
@@ -31,13 +31,13 @@ use Rattle.tockbronze.specs.Calls.{ClassesWritten, ClassesCall, SuspectsWritten,
 -- ---- suspects
 
 module _ (bytes : List ℕ) (tb : Table) (lent : tb ≡ lent_table bytes) (s : ℕ) (seen d : List ℕ) where
-  pub suspects_laid : (a : ArrayVec ℕ) → ◌≡◌ {A = Result (ArrayVec ℕ) Refusal} (Ok a) (suspects_of tb s seen) → (w : Result ℕ Refusal) (row : List ℕ) (n r : ℕ) (e : List ℕ)
-      → row ≡ a.items → n ≡ length a.items → Lays n row d w e → r ≡ packed (answer_number w) (answer_value w) → SuspectsCall bytes s seen d r e
-  suspects_laid a ea w row n r e er en l ew =
-      let v : SuspectsWritten (Ok a) d r e = rw (en, er) at (lays_call n row d w r e l ew) in
+  pub suspects_laid : (a : Suspects) → ◌≡◌ {A = Result Suspects Refusal} (Ok a) (suspects_of tb s seen) → (w : Result ℕ Refusal) (k n r : ℕ) (e : List ℕ)
+      → Lays n (take k a.columns) d w e → r ≡ packed (answer_number w) (answer_value w) → k ≡ a.count → n ≡ a.count → SuspectsCall bytes s seen d r e
+  suspects_laid a ea w k n r e l er ek en =
+      let v : SuspectsWritten (Ok a) d r e = rw (ek, en) at (lays_call n (take k a.columns) d w r e l er) in
       rw (← lent, ← ea) v
 
-  pub suspects_refused : (why : Refusal) → ◌≡◌ {A = Result (ArrayVec ℕ) Refusal} (Err why) (suspects_of tb s seen) → (r : ℕ) → r ≡ packed (answer_number {A = ℕ} (Err why)) (answer_value (Err why)) → SuspectsCall bytes s seen d r d
+  pub suspects_refused : (why : Refusal) → ◌≡◌ {A = Result Suspects Refusal} (Err why) (suspects_of tb s seen) → (r : ℕ) → r ≡ packed (answer_number {A = ℕ} (Err why)) (answer_value (Err why)) → SuspectsCall bytes s seen d r d
   suspects_refused why ew r er =
       let v : SuspectsWritten (Err why) d r d = call_refusal why _ _ d r er in
       rw (← lent, ← ew) v

@@ -1,7 +1,6 @@
 -- What each call gives.
 -- Assumes nothing.
 use Rattle.std.specs.Prelude.{List, Result, Ok, Err, ◌⊎◌, ◌≡◌, ℕ, ◌≤◌, ◌<◌, length, take}
-use Rattle.arrayvec.specs.ArrayVec.{ArrayVec}
 use Rattle.folds.specs.Fold.{listed, total}
 use Rattle.sets.specs.Sets.{bit}
 use Rattle.lent.specs.Lent.{set_number}
@@ -9,6 +8,7 @@ use Rattle.table.specs.Answers.{number_of, answer_number, answer_value}
 use Rattle.table.specs.Table.{columns}
 use Rattle.table.specs.declared.Classes.{Classes}
 use Rattle.table.specs.declared.Refusal.{Refusal}
+use Rattle.table.specs.declared.Suspects.{Suspects}
 use Rattle.table.specs.declared.Goal.{Goal}
 use Rattle.table.specs.declared.Table.{Table}
 use Rattle.terms.specs.Terms.{Essential}
@@ -17,7 +17,7 @@ use Rattle.choice.specs.Answer.{ChoiceIs}
 use Rattle.book.specs.Reading.{read_book}
 use Rattle.classes.specs.Classes.{classes_of, answer_classes}
 use Rattle.classes.specs.Undetectable.{UndetectableIn}
-use Rattle.suspects.specs.Suspects.{suspects_of, answer_list}
+use Rattle.suspects.specs.Suspects.{suspects_of, answer_suspects, answer_list}
 use Rattle.dictionary.specs.Dictionary.{dictionary_of}
 use Rattle.witness.specs.Witness.{sheet_of}
 use Rattle.report.specs.Answer.{IsText}
@@ -83,9 +83,9 @@ abbrev pub ClassesCall : List ℕ → List ℕ → ℕ → List ℕ → Type 0
 ClassesCall bytes entry r exit = ClassesWritten (columns (lent_table bytes)) (classes_of (lent_table bytes)) entry r exit
 
 -- the columns that are suspects, with their count
-abbrev pub SuspectsWritten : Result (ArrayVec ℕ) Refusal → List ℕ → ℕ → List ℕ → Type 0
+abbrev pub SuspectsWritten : Result Suspects Refusal → List ℕ → ℕ → List ℕ → Type 0
 SuspectsWritten a entry r exit =
-    CallWrites (answer_number a) (length (answer_list a)) (answer_list a) entry r exit
+    CallWrites (answer_number a) (answer_suspects a).count (answer_list a) entry r exit
 
 abbrev pub SuspectsCall : List ℕ → ℕ → List ℕ → List ℕ → ℕ → List ℕ → Type 0
 SuspectsCall bytes set seen entry r exit = SuspectsWritten (suspects_of (lent_table bytes) set seen) entry r exit

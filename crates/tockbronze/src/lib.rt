@@ -14,7 +14,7 @@ fn for_goal<F: FnOnce(Table, Goal) -> Result<u32, Refusal>>(table: &[u8], goal: 
 {
     let given = tables::table_in(table);
     match Goal::try_from(goal) {
-        Ok(goal) => answers::packed(call(given, goal).map(|set| set as usize)),
+        Ok(goal) => answers::of_chosen(call(given, goal)),
         Err(_) => answers::unknown_goal(given),
     }
 }
@@ -78,13 +78,14 @@ pub fn tockbronze_classes(table: &[u8], of: &mut [u8]) -> u64
 }
 
 // The suspects for the observed outputs.
+#[tactic(auto, using(suspects::proofs::Few::few_found))]
 pub fn tockbronze_suspects(table: &[u8], set: u32, outputs: &[u8], columns: &mut [u8]) -> u64
     ensures { SuspectsCall table.now set outputs.now columns.old result columns.new }
 {
     match suspects::suspects_of(tables::table_in(table), set, outputs) {
         Ok(found) => {
-            let count = found.len();
-            answers::packed(buffers::laid(found.as_slice(), count, columns))
+            let list = &found.columns[..found.count];
+            answers::packed(buffers::laid(list, found.count, columns))
         }
         Err(why) => answers::packed(Err(why)),
     }

@@ -2,9 +2,9 @@
 ghost use Rattle.std.specs.Prelude.{◌<◌};
 
 use crate::{case, show};
-use arrayvec::ArrayVec;
+use flat::inner::answers;
 use std::io;
-use table::{Classes, Goal, Refusal, Table};
+use table::{Classes, Goal, Refusal, Suspects, Table};
 
 fn classes(rt: &impl Print, table: Table) -> io::Result<()> {
     let answer = classes::classify(table);
@@ -30,7 +30,7 @@ pub fn questions(rt: &impl Print, table: Table) -> io::Result<()> {
 
 // A goal, a cap.
 pub fn choose(rt: &impl Print, case: &[u8], table: Table) -> io::Result<()> {
-    let goal = case::goal(case::byte(case, 0));
+    let goal = answers::goal_of(u64::from(case::byte(case, 0)));
     show::answer(
         rt,
         choice::choose(table, goal, case::set(case, 1)).map(u64::from),
@@ -66,15 +66,6 @@ pub fn sheet<F: FnOnce(Table, u32, &mut [u8]) -> Result<usize, Refusal>>(
     lent(rt, case, 4, |buf| write(table, case::set(case, 0), buf))
 }
 
-// The suspects as 61 bytes, zero past the last.
-fn padded(suspects: &[u8]) -> [u8; 61] {
-    let mut columns = [0; 61];
-    for (to, from) in columns.iter_mut().zip(suspects) {
-        *to = *from;
-    }
-    columns
-}
-
 // A set, the observed outputs.
 pub fn suspects(rt: &impl Print, case: &[u8], table: Table) -> io::Result<()> {
     let Some(outputs) = case.get(4..) else {
@@ -82,7 +73,10 @@ pub fn suspects(rt: &impl Print, case: &[u8], table: Table) -> io::Result<()> {
     };
     let answer = suspects::suspects_of(table, case::set(case, 0), outputs);
     show::verdict(rt, &answer)?;
-    let suspects = answer.unwrap_or(ArrayVec::new());
-    show::number(rt, suspects.len() as u64)?;
-    show::number(rt, show::mixed(0, &padded(suspects.as_slice())))
+    let suspects = answer.unwrap_or(Suspects {
+        count: 0,
+        columns: [0; 61],
+    });
+    show::number(rt, suspects.count as u64)?;
+    show::number(rt, show::mixed(0, &suspects.columns))
 }

@@ -1,8 +1,8 @@
 // Numbers and tables from the bytes of a case; a byte past its end is 0.
-ghost use Rattle.std.specs.Prelude.{◌≡◌, ◌<◌, ◌≤◌, length};
+ghost use Rattle.std.specs.Prelude.{ℕ, length, min, pos, ◌≡◌, ◌<◌, ◌<ℤ◌, ◌≤◌};
 
 use std::array;
-use table::{Goal, Table};
+use table::Table;
 
 // Room for a case or a lent buffer, full of one byte.
 pub fn space(fill: u8) -> [u8; 8192]
@@ -22,12 +22,21 @@ fn bytes<const N: usize>(case: &[u8], at: usize) -> [u8; N]
     array::from_fn(|i| byte(case, at + i))
 }
 
+// That many bytes, but 0 where it is negative and no more than a buffer has.
+pub fn count(bytes: isize, buf: &[u8]) -> usize
+    ensures bound { result ≤ length buf.now }
+    ensures value { (k : ℕ) → bytes ≡ pos k → result ≡ min k (length buf.now) }
+    ensures negative { bytes <ℤ pos 0 → result ≡ 0 }
+{
+    usize::try_from(bytes).unwrap_or(0).min(buf.len())
+}
+
 // A length of two bytes, but no more than a buffer has.
 pub fn length(case: &[u8], at: usize, buf: &[u8]) -> usize
     requires { at < 900 }
     ensures { result ≤ length buf.now }
 {
-    usize::from(u16::from_le_bytes(bytes(case, at))).min(buf.len())
+    count(u16::from_le_bytes(bytes(case, at)) as isize, buf)
 }
 
 // A set or a cap, of four bytes.
@@ -42,13 +51,6 @@ pub fn number(case: &[u8], at: usize) -> usize
     requires { at < 900 }
 {
     u64::from_le_bytes(bytes(case, at)) as usize
-}
-
-pub fn goal(code: u8) -> Goal {
-    match code {
-        0 => Goal::Detect,
-        _ => Goal::Diagnose,
-    }
 }
 
 // A table field by field: 8 bytes for each count, then 1,464 cells row by row, 60 lines and 60 stuck values.

@@ -48,7 +48,7 @@ fn next_case(
     case: &mut [u8],
     table: Table,
 ) -> io::Result<Table> {
-    input::read_full(file, case)?;
+    input::inner::read_full(file, case)?;
     rt.write_all(&[command])?;
     let next = run(rt, command, case, table)?;
     rt.write_all(b"\n")?;
@@ -67,7 +67,7 @@ fn all_cases(rt: &impl Print, file: &mut impl Read) -> io::Result<()> {
     let mut table = table::empty_table();
     for _ in 0..10000 {
         let mut head = [0u8; 3];
-        if input::read_full(file, &mut head)? < 3 {
+        if input::inner::read_full(file, &mut head)? < 3 {
             return Ok(());
         }
         table = headed(rt, file, head, table)?;

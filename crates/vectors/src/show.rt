@@ -2,6 +2,8 @@
 use std::io;
 use table::{Refusal, Table};
 
+const DIGITS: &[u8; 16] = b"0123456789abcdef";
+
 pub fn number(rt: &impl Print, n: u64) -> io::Result<()> {
     print!(rt; " {n}")
 }
@@ -48,12 +50,18 @@ pub fn answer(rt: &impl Print, answer: Result<u64, Refusal>) -> io::Result<()> {
     number(rt, answer.unwrap_or(0))
 }
 
-// Prints a lent buffer: its sum, and each of its bytes.
+// The digit of a byte's low half.
+fn digit(n: u8) -> u8 {
+    DIGITS[usize::from(n % 16)]
+}
+
+// Prints a lent buffer: its sum, and each of its bytes. A buffer is long, and `{b:02x}` takes four times the
+// instructions.
 pub fn lent(rt: &impl Print, buf: &[u8]) -> io::Result<()> {
     number(rt, mixed(0, buf))?;
     rt.write_all(b" ")?;
     for b in buf {
-        print!(rt; "{b:02x}")?;
+        rt.write_all(&[digit(b / 16), digit(*b)])?;
     }
     Ok(())
 }

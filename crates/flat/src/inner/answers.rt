@@ -1,9 +1,9 @@
-// Answers as one number, caps as numbers.
+// Answers as one number, goals and caps as numbers.
 ghost use Rattle.std.specs.Prelude.{◌≡◌, ◌≤◌, ◌<◌};
 ghost use Rattle.table.specs.Answers.{number_of, answer_number, answer_value};
-ghost use Rattle.flat.specs.Packed.{packed, value_limit, cap_of, unknown_goal};
+ghost use Rattle.flat.specs.Packed.{packed, value_limit, goal_of, cap_of, unknown_goal};
 
-use table::{Fitting, Refusal, Table};
+use table::{Fitting, Goal, Refusal, Table};
 
 // 99, after 20: a number of the C interface alone.
 #[tactic(auto, unfolding(crate::specs::Packed::unknown_goal, crate::specs::Packed::packed))]
@@ -14,6 +14,14 @@ pub fn unknown_goal(table: Table) -> u64
         Ok(_) => 99,
         Err(why) => packed(Err(why)),
     }
+}
+
+// 0 is detect, every other number diagnose: for callers that know the number for a goal's.
+#[tactic(auto, unfolding(crate::specs::Packed::goal_of))]
+pub fn goal_of(goal: u64) -> Goal
+    ensures { result ≡ goal_of goal }
+{
+    Goal::try_from(goal).unwrap_or(Goal::Diagnose)
 }
 
 // Every cap above 24 is too high, as 25 is. The C interface gives a number.
@@ -33,6 +41,13 @@ pub fn packed(answer: Result<usize, Refusal>) -> u64
         Ok(value) => value as u64 * 256,
         Err(why) => u64::from(table::number(why)),
     }
+}
+
+// The same for a set of tests, whose 32 bits always fit.
+pub fn of_chosen(answer: Result<u32, Refusal>) -> u64
+    ensures { result ≡ packed (answer_number answer) (answer_value answer) }
+{
+    packed(answer.map(|set| set as usize))
 }
 
 // The number of a refusal, with the place.

@@ -1,7 +1,6 @@
-use Rattle.std.proofs.Common.{rules, arith}
-use Rattle.std.proofs.lemmas.Grind.{common_steps}
-use Rattle.text.proofs.Adds.{adds_word}
+use Rattle.std.proofs.Common.{rules}
+use Rattle.text.proofs.Adds.{word_more}
 use Rattle.text.proofs.page.Page.word.Goals as goal
 
-pub returns : goal.returns
-returns c = adds_word c.self.inside.at c.min-n.result c.args.word.now c.self.inside.bytes _ _ (search rules) (search rules) (grind (arith, common_steps)) (grind (arith, common_steps)) (search rules) (search rules)
+pub loop-byte-preserved : goal.loop-byte-preserved
+loop-byte-preserved c = search (rules, word_more)
