@@ -24,10 +24,13 @@ impl<'a> Observed<'a> {
         requires { c < 61 }
         ensures { result ≡ suspect (output_at self.now.given.now.table.table) self.now.given.now.table.table.tests self.now.given.now.set self.now.outputs.now c }
     {
-        let mut observed = self.outputs.iter();
+        let mut next = 0;
         for t in 0..self.given.table.tests() {
-            if self.given.has(t) && observed.next() != Some(&self.given.table.output(t, c)) {
-                return false;
+            if self.given.has(t) {
+                if self.outputs[next] != self.given.table.output(t, c) {
+                    return false;
+                }
+                next += 1;
             }
         }
         true

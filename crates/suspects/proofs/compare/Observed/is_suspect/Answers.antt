@@ -1,22 +1,30 @@
 use native.Mathlib.Omega.{arith}
-use Rattle.suspects.proofs.Walk.{walk_start, walk_pass, walk_take, walk_stop, walk_end}
-use Rattle.suspects.proofs.compare.Observed.is_suspect.Goals.{else-has-via-then-has+else-ne, else-has-via-else-has}
+use Rattle.folds.proofs.Count.{count_start, count_fits, count_up, count_on}
+use Rattle.suspects.proofs.Walk.{walk_room, walk_start, walk_pass, walk_take, walk_stop, walk_end}
+use Rattle.suspects.proofs.compare.Observed.is_suspect.Goals.{then-has+else-self-next, else-has}
 use Rattle.suspects.proofs.compare.Observed.is_suspect.Goals as goal
 
 pub loop-t-init : goal.loop-t-init
-loop-t-init c = search walk_start
+loop-t-init c = (count_start _, walk_start _ _ c.args.self.now.outputs.now _)
 
-pub returns-then-ne : goal.returns-then-ne
-returns-then-ne c =
-    walk_stop _ _ _ _ _ _ c.loop-t.invariant _ c.has.ensures _ c.args.self.now.one_each _ _ _ _ _
-    (omega (arith, c.loop-t-test.true, c.tests-t-end.ensures)) c.if-has.true (λ p. p.0) c.next.ensures.steps c.output.ensures c.ne.ensures c.if-ne.true
+pub bounds-self-next : goal.bounds-self-next
+bounds-self-next c =
+    walk_room _ _ _ _ _ _ c.args.self.now.one_each c.loop-t.invariant.0 (omega (arith, c.loop-t-test.true, c.tests-t-end.ensures)) c.has.ensures c.if-has.true
+
+pub returns-then-self-next : goal.returns-then-self-next
+returns-then-self-next c =
+    walk_stop _ _ _ _ _ _ _ _ _ c.loop-t.invariant.0 (omega (arith, c.loop-t-test.true, c.tests-t-end.ensures)) c.has.ensures c.if-has.true c.output.ensures c.if-self-next.true
+
+pub overflow_add-next : goal.overflow_add-next
+overflow_add-next c = omega (arith, count_fits _ _ _ c.loop-t.invariant.0)
 
 pub loop-t-preserved : goal.loop-t-preserved
 loop-t-preserved c =
-    elim c.else-has.branch [
-      | else-has-via-then-has+else-ne w ↦ rw w.observed-is (search walk_take)
-      | else-has-via-else-has w ↦ rw w.observed-is (search walk_pass)
+    let room = walk_room _ _ _ _ _ _ c.args.self.now.one_each c.loop-t.invariant.0 (omega (arith, c.loop-t-test.true, c.tests-t-end.ensures)) c.has.ensures in
+    elim c.if-has.branch [
+      | then-has+else-self-next w ↦ (search count_up, walk_take _ _ _ _ _ _ _ c.loop-t.invariant.1 c.has.ensures _ _ w.if-has.true (room w.if-has.true) w.output.ensures w.if-self-next.false w.next-is)
+      | else-has w ↦ (search count_on, search walk_pass)
     ]
 
 pub returns : goal.returns
-returns c = walk_end _ _ _ _ _ _ _ c.loop-t.invariant c.args.self.now.one_each (omega (arith, c.loop-t-test.false, c.loop-t.auto.t-end, c.tests-t-end.ensures))
+returns c = walk_end _ _ _ _ _ _ _ c.args.self.now.one_each c.loop-t.invariant.0 c.loop-t.invariant.1 (omega (arith, c.loop-t-test.false, c.loop-t.auto.t-end, c.tests-t-end.ensures))
