@@ -7,7 +7,6 @@ use native.Mathlib.Omega.{arith}
 use lib.ListN.{length, get_or, take}
 use Rattle.std.proofs.lemmas.List.{take_more, take_all}
 use Rattle.folds.specs.Fold.{single, count}
-use Rattle.folds.proofs.Count.{count_less}
 use Rattle.folds.proofs.Gather.{gather_yes}
 use Rattle.folds.proofs.Joined.{joined_none, joined_no}
 use Rattle.sets.specs.Sets.{has}
@@ -15,10 +14,6 @@ use Rattle.terms.specs.Columns.{output_of, outputs_under}
 use Rattle.terms_laws.proofs.Classes.{signature_get}
 use Rattle.suspects.specs.Suspects.{suspect}
 use Rattle.suspects.proofs.Answers.{suspect_same, same_suspect}
-
--- before each test of the set the place lies in the outputs, one for each test
-pub walk_room : (s tests t next : ℕ) (r : Bool) (seen : List ℕ) → length seen ≡ count (has s) tests → next ≡ count (has s) t → t < tests → r ≡ has s t → r ≡ true → next < length seen
-walk_room s tests t next r seen one_each here w q h = omega (arith, count_less (has s) t tests w (sym q ∙ h))
 
 module _ (out : ℕ → ℕ → ℕ) (s : ℕ) (seen : List ℕ) (c : ℕ) where
   pub walk_start : outputs_under out 0 s c ≡ take 0 seen
