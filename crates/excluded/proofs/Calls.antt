@@ -22,8 +22,8 @@ use Rattle.classes.proofs.Meaning.{count_given}
 use Rattle.lent.specs.Lent.{set_number, WritesOnto}
 use Rattle.dictionary.specs.Dictionary.{dictionary_of}
 use Rattle.witness.specs.Witness.{above, separates, sheet_of, witness_of}
-use Rattle.suspects.specs.Suspects.{answer_suspects, equal, suspect, suspects_of}
-use Rattle.suspects.proofs.Meaning.{counted}
+use Rattle.suspects.specs.Suspects.{answer_suspects, answer_list, equal, suspect, suspects_of}
+use Rattle.suspects.proofs.Meaning.{counted, list_counted}
 use Rattle.choice_laws.proofs.Tables.{row_from, rows_from, small, two}
 use Rattle.choice_laws.proofs.Excluded.{two_formed}
 use Rattle.excluded.proofs.Left.{no_other, refused_differs, writes_something, no_other_length}
@@ -71,6 +71,10 @@ two_suspects : (answer_suspects (suspects_of two 1 (1 ∷ []))).count ≡ 2
 unfolding two small row_from rows_from empty_table place_of cell_at joined single has bit count suspect equal output_of
 two_suspects = counted two 1 (1 ∷ []) well_formed_lem known.1 refl (suspects_of two 1 (1 ∷ [])) refl
 
+two_listed : length (answer_list (suspects_of two 1 (1 ∷ []))) ≡ 2
+unfolding two small row_from rows_from empty_table place_of cell_at joined single has bit count suspect equal output_of
+two_listed = list_counted two 1 (1 ∷ []) well_formed_lem known.1 refl (suspects_of two 1 (1 ∷ [])) refl
+
 -- ---- what the promises exclude
 
 -- "a dictionary call that writes nothing"
@@ -93,9 +97,12 @@ made_up_sheet_bytes = no_other_length (set_number two 3) (sheet_of two 3) witnes
 pub made_up_classes : (n : ℕ) → (n ≡ 3 → ⊥) → (c : Result Classes Refusal) → c ≡ classes_of two → (answer_classes c).count ≡ n → ⊥
 made_up_classes = no_other (λ (c : Result Classes Refusal). (answer_classes c).count) (classes_of two) 3 three_classes
 
--- and the suspects
+-- and the suspects, by their count and by how many are listed
 pub made_up_suspects : (n : ℕ) → (n ≡ 2 → ⊥) → (r : Result Suspects Refusal) → r ≡ suspects_of two 1 (1 ∷ []) → (answer_suspects r).count ≡ n → ⊥
 made_up_suspects = no_other (λ (r : Result Suspects Refusal). (answer_suspects r).count) (suspects_of two 1 (1 ∷ [])) 2 two_suspects
+
+pub made_up_list : (n : ℕ) → (n ≡ 2 → ⊥) → (r : Result Suspects Refusal) → r ≡ suspects_of two 1 (1 ∷ []) → length (answer_list r) ≡ n → ⊥
+made_up_list = no_other (λ (r : Result Suspects Refusal). length (answer_list r)) (suspects_of two 1 (1 ∷ [])) 2 two_listed
 
 -- "a reader or chooser that only ever refuses": such a version of `classify`
 pub classes_only_refusing : (why : Refusal) (c : Result Classes Refusal) → c ≡ classes_of two → c ≡ Err why → ⊥
