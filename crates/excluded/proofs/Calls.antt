@@ -3,7 +3,7 @@
 -- Assumes nothing.
 use mathlib.Core.Bool.{true}
 use mathlib.Core.List.{List, [], ◌∷◌}
-use mathlib.Core.Path.{◌≡◌, refl}
+use mathlib.Core.Path.{◌≡◌, refl, sym, ◌∙◌}
 use Prim.Native.Nat.{ℕ, ◌≤◌}
 use lib.ListN.{length, take}
 use Rattle.folds.specs.Fold.{count, every, first, joined, single}
@@ -71,10 +71,6 @@ two_suspects : (answer_suspects (suspects_of two 1 (1 ∷ []))).count ≡ 2
 unfolding two small row_from rows_from empty_table place_of cell_at joined single has bit count suspect equal output_of
 two_suspects = counted two 1 (1 ∷ []) well_formed_lem known.1 refl (suspects_of two 1 (1 ∷ [])) refl
 
-two_listed : length (answer_list (suspects_of two 1 (1 ∷ []))) ≡ 2
-unfolding two small row_from rows_from empty_table place_of cell_at joined single has bit count suspect equal output_of
-two_listed = list_counted two 1 (1 ∷ []) well_formed_lem known.1 refl (suspects_of two 1 (1 ∷ [])) refl
-
 -- ---- what the promises exclude
 
 -- "a dictionary call that writes nothing"
@@ -102,7 +98,10 @@ pub made_up_suspects : (n : ℕ) → (n ≡ 2 → ⊥) → (r : Result Suspects 
 made_up_suspects = no_other (λ (r : Result Suspects Refusal). (answer_suspects r).count) (suspects_of two 1 (1 ∷ [])) 2 two_suspects
 
 pub made_up_list : (n : ℕ) → (n ≡ 2 → ⊥) → (r : Result Suspects Refusal) → r ≡ suspects_of two 1 (1 ∷ []) → length (answer_list r) ≡ n → ⊥
-made_up_list = no_other (λ (r : Result Suspects Refusal). length (answer_list r)) (suspects_of two 1 (1 ∷ [])) 2 two_listed
+unfolding two small has bit count
+made_up_list n other r e h =
+    made_up_suspects n other r e
+    (counted two 1 (1 ∷ []) well_formed_lem known.1 refl r e ∙ sym (list_counted two 1 (1 ∷ []) well_formed_lem known.1 refl r e) ∙ h)
 
 -- "a reader or chooser that only ever refuses": such a version of `classify`
 pub classes_only_refusing : (why : Refusal) (c : Result Classes Refusal) → c ≡ classes_of two → c ≡ Err why → ⊥
